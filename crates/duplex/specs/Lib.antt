@@ -1,0 +1,4 @@
+pub mod Rules
+pub mod Uniform
+pub mod Holds
+pub mod Calls

@@ -1,0 +1,6 @@
+pub mod Sponge
+pub mod SpongeHeld
+pub mod Separation
+pub mod CodesBlock
+pub mod CodesBlockLaws
+pub mod CodesKind

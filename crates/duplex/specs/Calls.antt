@@ -10,9 +10,9 @@ use Rattle.runs.specs.Answers.{as-done, as-bits, as-checked, as-ground, answere
 use Rattle.runs.specs.Runs.{Rule, Checks-stand}
 use Rattle.runs.specs.RunLaws.{checks-stand}
 use Rattle.sponge.specs.Sponge.{SpongeMake}
-use Rattle.duplex.specs.declared.held.DuplexHeld.{DuplexHeld}
-use Rattle.duplex.specs.Rules.{observed, sample-of, drawing, means}
-use Rattle.duplex.specs.Uniform.{uniform-of}
+use Rattle.duplexing.specs.declared.held.DuplexHeld.{DuplexHeld}
+use Rattle.duplexing.specs.Rules.{observed, sample-of, drawing, means}
+use Rattle.duplexing.specs.Uniform.{uniform-of}
 
 module _ {order : ℕ} (k : SpongeMake order) where
   -- what each call says and leaves; observing a digest is observing

@@ -1,4 +1,6 @@
 //! How many bits hold a code.
+#![tactic(auto)]
+
 ghost use Rattle.std.specs.Prelude.{◌≡◌, ◌≤◌};
 ghost use Rattle.bits.specs.CodeBits.{code_bits, LeastBits};
 

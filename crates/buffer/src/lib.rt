@@ -1,4 +1,6 @@
 //! Codes in a fixed array with a count.
+#![tactic(auto)]
+
 ghost use Rattle.std.specs.Prelude.{◌≡◌, ◌≤◌, length, take};
 ghost use Rattle.permutation.specs.Rows.{Codes};
 

@@ -1,4 +1,6 @@
 //! Domains: the whole numbers below an order, with an addition and a stir.
+#![tactic(auto)]
+
 ghost use Rattle.std.specs.Prelude.{◌≡◌, ◌^◌, ◌<◌, ◌≤◌};
 ghost use Rattle.domain.specs.Arithmetic.{Arithmetic};
 ghost use Rattle.domain.specs.Modular.{bytes, baby_bear, koala_bear, goldilocks};

@@ -1,4 +1,6 @@
 //! Bounded draws: values are drawn until one is below a bound, within a limit.
+#![tactic(auto)]
+
 ghost use Rattle.std.specs.Prelude.{◌≡◌, ℕ, ◌%◌, ◌^◌, ◌<◌};
 ghost use Rattle.interface.specs.Meaning.{Does, Reply};
 ghost use Rattle.draws.specs.Draws.{some_draws, draw_below};

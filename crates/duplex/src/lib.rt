@@ -1,4 +1,6 @@
 //! The duplex challenger: a sponge that takes codes until its rate is full, and gives its rate back as outputs.
+#![tactic(auto)]
+
 ghost use Rattle.std.specs.Prelude.{◌≡◌, ℕ, ◌<◌, true, false, ◌&&◌, List, MatchResult, ◌==◌};
 ghost use Rattle.refusal.specs.declared.Refusal.TheVariants.{Shape};
 ghost use Rattle.buffer.specs.Items.{items};

@@ -1,4 +1,6 @@
 //! Numbers as bytes on a byte transcript.
+#![tactic(auto)]
+
 mod observing;
 
 pub use observing::observe_numbers;

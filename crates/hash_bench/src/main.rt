@@ -1,4 +1,6 @@
 //! Hashes 1,024 bytes again and again: `hash_bench sha256 COUNT` or `hash_bench sha3 COUNT`.
+#![tactic(auto)]
+
 use hasher::CryptographicHasher;
 use sha3::Sha3_256;
 use sha256::Sha256;

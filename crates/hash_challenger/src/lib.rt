@@ -1,4 +1,6 @@
 //! The hash challenger: bytes are appended to an input, and outputs are digests of it.
+#![tactic(auto)]
+
 ghost use Rattle.std.specs.Prelude.{◌≡◌, ℕ, true, false, List, length, Decides, MatchResult, nat_le};
 ghost use Rattle.refusal.specs.declared.Refusal.TheVariants.{InitialState};
 ghost use Rattle.interface.specs.Meaning.{Does, observe_of};

@@ -1,4 +1,6 @@
 //! What a hash challenger keeps beside its hasher, and what its calls do to it.
+#![tactic(auto)]
+
 ghost use Rattle.std.specs.Prelude.{◌≡◌, ◌+◌, ◌≤◌, true, ◌||◌, length, ◌==◌, nat_le};
 
 mod candidate;

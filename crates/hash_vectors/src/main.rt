@@ -1,4 +1,6 @@
 //! The hash functions against the examples of the standards and against the answers of another implementation.
+#![tactic(auto)]
+
 use hasher::CryptographicHasher;
 use sha3::Sha3_256;
 use sha256::Sha256;

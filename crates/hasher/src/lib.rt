@@ -1,4 +1,6 @@
 //! Hash functions on bytes, by what they mean.
+#![tactic(auto)]
+
 ghost use Rattle.std.specs.Prelude.{◌≡◌, ℕ, ◌+◌, ◌<◌, ◌≤◌, List, length};
 ghost use Rattle.std.proofs.Math.Seq.{paste};
 ghost use Rattle.hasher.specs.Hashing.{Hashing};

@@ -1,4 +1,6 @@
 //! The interface of challengers: what is held, observing, drawing bits, and grinding above them.
+#![tactic(auto)]
+
 ghost use Rattle.std.specs.Prelude.{◌≡◌, ℕ, Bool, List, Result};
 ghost use Rattle.refusal.specs.declared.Refusal.{Refusal as RefusalT};
 ghost use Rattle.interface.specs.Meaning.{Does, Drawing, observe_of, bits_of};

@@ -1,4 +1,6 @@
 //! The permutation Keccak-f[1600], as FIPS 202 defines it. The lane (x, y) of the state stands at x + 5 * y.
+#![tactic(auto)]
+
 ghost use Rattle.std.specs.Prelude.{◌≡◌};
 ghost use Rattle.keccak_spec.specs.Keccak.{round, «keccak_f»};
 

@@ -1,4 +1,6 @@
 //! The step χ of the permutation Keccak-f[1600]. The lane (x, y) of the state stands at x + 5 * y.
+#![tactic(auto)]
+
 ghost use Rattle.std.specs.Prelude.{◌≡◌};
 ghost use Rattle.keccak_spec.specs.Keccak.{χ};
 

@@ -1,4 +1,6 @@
 //! The program: plays a script, or shows the prover's and the verifier's run of it.
+#![tactic(auto)]
+
 use std::alloc::AllocError;
 use std::{env, fs, io};
 

@@ -1,4 +1,6 @@
 //! The blocks of a multi-field challenger, of scalars and of words, and its outputs split into scalars.
+#![tactic(auto)]
+
 ghost use Rattle.std.specs.Prelude.{◌≡◌, ◌^◌, ◌<◌, ◌≤◌};
 ghost use Rattle.bits.specs.CodeBits.{code_bits};
 ghost use Rattle.packing.specs.Powers.{limbs as limbs_of, digits as digits_of};

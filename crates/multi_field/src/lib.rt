@@ -1,4 +1,6 @@
 //! The multi-field challenger: it samples in a small domain, and its sponge lives in a larger one.
+#![tactic(auto)]
+
 ghost use Rattle.std.specs.Prelude.{◌≡◌, ℕ, ◌<◌, true, ◌&&◌, List, Some, None, MatchResult, ◌==◌};
 ghost use Rattle.buffer.specs.Items.{items};
 ghost use Rattle.interface.specs.Meaning.{Does, observe_of};

@@ -1,4 +1,6 @@
 //! What a multi-field challenger keeps beside its permutation, and what its calls do to it.
+#![tactic(auto)]
+
 ghost use Rattle.std.specs.Prelude.{◌*◌, ◌<◌, ◌≤◌, length};
 ghost use Rattle.buffer.specs.Items.{items};
 

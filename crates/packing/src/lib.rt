@@ -1,4 +1,6 @@
 //! Packing scalars into words, and splitting words into scalars.
+#![tactic(auto)]
+
 mod numbers;
 mod packing;
 

@@ -1,4 +1,6 @@
 //! Permutations of rows of codes.
+#![tactic(auto)]
+
 ghost use Rattle.std.specs.Prelude.{◌≡◌, ℕ, ◌+◌, ◌%◌, ◌<◌, ◌≤◌, true, false, List, reverse, length, MatchResult};
 ghost use Rattle.refusal.specs.declared.Refusal.TheVariants.{Rounds};
 ghost use Rattle.permutation.specs.Rows.{Row, Lawful};

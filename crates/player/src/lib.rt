@@ -1,4 +1,6 @@
 //! Plays scripts: one answer for each line, or the prover's and the verifier's run side by side.
+#![tactic(auto)]
+
 mod agreement;
 mod making;
 mod playing;

@@ -1,4 +1,6 @@
 //! What the calls of a script answered, in words.
+#![tactic(auto)]
+
 ghost use Rattle.std.specs.Prelude.{◌≡◌, IfOk, string_bytes};
 ghost use Rattle.printing.specs.Spoken.{refusal_words, answer_words};
 

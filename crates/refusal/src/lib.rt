@@ -1,4 +1,6 @@
 //! Why a call was refused: a case for each question, with its number and the values that it carries.
+#![tactic(auto)]
+
 ghost use Rattle.std.specs.Prelude.{◌≡◌, length, take, drop};
 ghost use Rattle.refusal.specs.Numbers.{number, values};
 

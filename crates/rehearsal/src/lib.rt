@@ -1,4 +1,6 @@
 //! The lines of a script as calls, and the prover's and the verifier's run of them side by side.
+#![tactic(auto)]
+
 pub mod lines;
 mod played;
 mod sides;

@@ -1,4 +1,6 @@
 //! Calls as values, and runs of them: the prover's, the verifier's, and the law that the two agree.
+#![tactic(auto)]
+
 ghost use Rattle.std.specs.Prelude.{◌≡◌, ℕ, List};
 ghost use Rattle.interface.specs.Meaning.{Does};
 ghost use Rattle.runs.specs.declared.call.Call.{Call as CallT};

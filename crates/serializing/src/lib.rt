@@ -1,4 +1,6 @@
 //! The serializing challenger: codes of a domain over any byte transcript.
+#![tactic(auto)]
+
 ghost use Rattle.std.specs.Prelude.{◌≡◌, ◌≤◌};
 ghost use Rattle.bits.specs.CodeBits.{code_bits};
 

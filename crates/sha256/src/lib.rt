@@ -1,4 +1,6 @@
 //! SHA-256, as FIPS 180-4 defines it.
+#![tactic(auto)]
+
 ghost use Rattle.std.specs.Prelude.{◌≡◌, ◌+◌, ◌-◌, ◌<◌, ◌≤◌, ◌++◌, length, take, fold, slice_index, slice_set};
 ghost use Rattle.sha256.specs.Sha256.{Ch, Maj, Σ0, Σ1, σ0, σ1, K, round, rounds, schedule, next, words, compressed, ending, bytes, sha256};
 ghost use Rattle.sha256.specs.Example.{abc, «abc_digest»};

@@ -1,4 +1,6 @@
 //! SHA3-256, as FIPS 202 defines it.
+#![tactic(auto)]
+
 ghost use Rattle.std.specs.Prelude.{◌≡◌, ◌-◌, ◌<◌, ◌∷◌, ◌++◌, length, replicate, fold};
 ghost use Rattle.sha3.specs.Sha3.{mixed, absorbed, closed, squeezed, «sha3_256»};
 ghost use Rattle.sha3.specs.Sha3Law.{«sha3_hashing»};

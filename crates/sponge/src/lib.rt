@@ -1,4 +1,6 @@
 //! A sponge: a row of codes, its width and rate, and the outputs not yet taken.
+#![tactic(auto)]
+
 ghost use Rattle.std.specs.Prelude.{◌≡◌, ◌<◌, ◌≤◌, length};
 ghost use Rattle.buffer.specs.Items.{items};
 

@@ -1,4 +1,6 @@
 //! Byte transcripts: what observes bytes and gives bytes back.
+#![tactic(auto)]
+
 ghost use Rattle.std.specs.Prelude.{◌≡◌, ℕ, true, List};
 ghost use Rattle.interface.specs.Meaning.{Does, reply, observe_of};
 ghost use Rattle.transcript.specs.Transcript.{Transcript, bytes_observed, sought};

@@ -1,4 +1,6 @@
 //! Plays the worked cases of the duplex challenger, and input at every limit.
+#![tactic(auto)]
+
 use std::{fs, io};
 
 /// Prints the answers; fails if a line could not be read.

@@ -1,4 +1,6 @@
 //! Bits without bias, over any way to draw codes.
+#![tactic(auto)]
+
 ghost use Rattle.std.specs.Prelude.{◌≡◌, ℕ, ◌+◌, ◌*◌, ◌^◌, ◌<◌, ◌≤◌, IfOk};
 ghost use Rattle.interface.specs.Meaning.{Does};
 ghost use Rattle.uniform.specs.Uniform.{bound, part_of, parts_of, uniform_of};

@@ -2,6 +2,7 @@
 #![tactic(auto)]
 
 use std::alloc::AllocError;
+use std::process::ExitCode;
 use std::{env, fs, io};
 
 const HELP: &str = "melkwido plays scripts of challenger calls
@@ -87,11 +88,19 @@ fn obey(rt: &HostRuntime, command: &str, path: &str) -> Result<(), Failed> {
     }
 }
 
-fn main(rt: HostRuntime) -> Result<(), Failed> {
-    let words: Vec<String> = env::args(&rt)?.skip(1).collect(rt.alloc())?;
+/// Does what the words after the program's name say.
+fn obey_words(rt: &HostRuntime) -> Result<(), Failed> {
+    let words: Vec<String> = env::args(rt)?.skip(1).collect(rt.alloc())?;
     match words.as_slice() {
-        [command] => obey(&rt, command.as_str(), "-"),
-        [command, path] => obey(&rt, command.as_str(), path.as_str()),
-        _ => obey(&rt, "", "-"),
+        [command] => obey(rt, command.as_str(), "-"),
+        [command, path] => obey(rt, command.as_str(), path.as_str()),
+        _ => obey(rt, "", "-"),
+    }
+}
+
+fn main(rt: HostRuntime) -> ExitCode {
+    match obey_words(&rt) {
+        Ok(()) => ExitCode::SUCCESS,
+        Err(_) => ExitCode::FAILURE,
     }
 }

@@ -31,7 +31,7 @@ pub trait CanObserve: Holding {
     ghost observed: { Self.Make → Self.Held → List ℕ → Result (Self.Held) RefusalT };
 
     fn observe(&mut self, codes: &[u64]) -> Result<(), Refusal>
-        ensures does { Does make held self.old self.new result (observe_of (observed (make self.old) (held self.old) codes.now) (held self.old)) };
+        ensures does { Does Self.make Self.held self.old self.new result (observe_of (observed (Self.make self.old) (Self.held self.old) codes.now) (Self.held self.old)) };
 }
 
 /// Drawing bits.
@@ -39,10 +39,10 @@ pub trait CanSampleBits: Holding {
     ghost drawing: { Self.Make → Drawing (Self.Held) };
 
     fn order(&self) -> u64
-        ensures { result ≡ (drawing (make self.now)).order };
+        ensures { result ≡ (drawing (Self.make self.now)).order };
 
     fn sample_bits(&mut self, bits: u64) -> Result<u64, Refusal>
-        ensures does { Does make held self.old self.new result (bits_of (drawing (make self.old)) (held self.old) bits) };
+        ensures does { Does Self.make Self.held self.old self.new result (bits_of (drawing (Self.make self.old)) (Self.held self.old) bits) };
 }
 
 /// Where a check starts.
@@ -50,8 +50,8 @@ pub trait CanStartCheck: Holding {
     ghost started: { Self.Make → Self.Held → Self.Held };
 
     fn start_check(&mut self)
-        ensures left { held self.new ≡ started (make self.old) (held self.old) }
-        ensures kept { make self.new ≡ make self.old };
+        ensures left { Self.held self.new ≡ started (Self.make self.old) (Self.held self.old) }
+        ensures kept { Self.make self.new ≡ Self.make self.old };
 }
 
 /// Checking witnesses and searching for them: promised through the meanings of observing, of drawing bits and of where a check starts.

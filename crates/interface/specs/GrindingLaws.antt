@@ -1,11 +1,11 @@
 -- Proofs only: what `first` finds, that a grind's witness passes a check in its place, and that it is the least.
-use Rattle.std.specs.Prelude.{◌≡◌, ℕ, zero, suc, ◌+◌, ◌<◌, ◌≤◌, Bool, true, false, cond, ◌⊎◌, Ok, Err, Result, ◌==◌, nat_le, nat_lt, refl}
-use Rattle.std.proofs.Common.{sym, ap, ◌∙◌, inl, inr, ⊎_elim, arith}
+use Rattle.std.specs.Prelude.{◌≡◌, ℕ, zero, suc, ◌+◌, ◌<◌, ◌≤◌, Bool, true, false, Ok, Err, Result, ◌==◌, nat_le, nat_lt, refl}
+use Rattle.std.proofs.Common.{sym, ap, ◌∙◌, ⊎_elim, arith}
 use Rattle.std.proofs.lemmas.Bool.{ltb-true, ltb-false, lt-ltb, le-ltb, le-leb, ne_eqb, cond-true, cond-false, cases_lt, cases_order, cond_both}
 use Rattle.refusal.specs.declared.Refusal.{Refusal}
 use Rattle.refusal.specs.declared.Refusal.TheVariants.{NoWitness}
 use Rattle.interface.specs.Meaning.{Reply, reply, few_bits}
-use Rattle.interface.specs.Grinding.{Means, first, yes, check_of, accepts, found, grind_of, NoneBelow, Least, refused, passed, LeastWitness}
+use Rattle.interface.specs.Grinding.{Means, first, yes, check_of, accepts, found, grind_of, NoneBelow, refused, passed, LeastWitness}
 
 pub first_le : (p : ℕ → Bool) (n : ℕ) → first p n ≤ n
 unfolding first

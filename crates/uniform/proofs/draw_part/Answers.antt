@@ -11,11 +11,11 @@ returns-in-Ok g c =
     let drawn = g.C.CanDraw.drawn (t.make c.args.c.now) in
     let h = t.held c.args.c.now in
     let drew = c.in-Ok.ensures.does in
-    let at = ap (λ e. drawn_below drawn e (c.args.limit - 1) h) c.sampling-bound.ensures in
+    let at = ap (λ e. drawn_below drawn e (c.args.limit - 1) h) c.sampling_bound.ensures in
     let is = part_is drawn c.args.order c.args.bits c.args.limit h (sym at ∙ did drew) in
     record {
-      does = does_by (is ∙ ap (λ v. reply (Ok v) (t.held c.draw_below.new.c)) (sym c.low-bits.ensures.value)) drew.same_make;
-      below = c.low-bits.ensures.below;
+      does = does_by (is ∙ ap (λ v. reply (Ok v) (t.held c.draw_below.new.c)) (sym c.low_bits.ensures.value)) drew.same_make;
+      below = c.low_bits.ensures.below;
     }
 
 pub returns-in-Err : goal.returns-in-Err
@@ -24,5 +24,5 @@ returns-in-Err g c =
     let drawn = g.C.CanDraw.drawn (t.make c.args.c.now) in
     let h = t.held c.args.c.now in
     let drew = c.in-Err.ensures.does in
-    let at = ap (λ e. drawn_below drawn e (c.args.limit - 1) h) c.sampling-bound.ensures in
+    let at = ap (λ e. drawn_below drawn e (c.args.limit - 1) h) c.sampling_bound.ensures in
     record { does = does_by (part_is drawn c.args.order c.args.bits c.args.limit h (sym at ∙ did drew)) drew.same_make; below = tt }

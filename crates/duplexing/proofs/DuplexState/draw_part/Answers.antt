@@ -13,10 +13,10 @@ returns-in-Ok g c =
     let k = making d image (shape c.args.self.now) in
     let h = held c.args.self.now in
     let drew = c.in-Ok.ensures.does in
-    let at = ap (λ e. draw_below k e (c.args.limit - 1) h) c.sampling-bound.ensures in
+    let at = ap (λ e. draw_below k e (c.args.limit - 1) h) c.sampling_bound.ensures in
     record {
-      does = does_by (part_is k c.args.bits c.args.limit h (sym at ∙ did drew) ∙ ap (λ v. reply (Ok v) (held c.draw_below.new.self)) (sym c.low-bits.ensures.value)) drew.same_make;
-      below = c.low-bits.ensures.below;
+      does = does_by (part_is k c.args.bits c.args.limit h (sym at ∙ did drew) ∙ ap (λ v. reply (Ok v) (held c.draw_below.new.self)) (sym c.low_bits.ensures.value)) drew.same_make;
+      below = c.low_bits.ensures.below;
     }
 
 pub returns-in-Err : goal.returns-in-Err
@@ -26,5 +26,5 @@ returns-in-Err g c =
     let k = making d image (shape c.args.self.now) in
     let h = held c.args.self.now in
     let drew = c.in-Err.ensures.does in
-    let at = ap (λ e. draw_below k e (c.args.limit - 1) h) c.sampling-bound.ensures in
+    let at = ap (λ e. draw_below k e (c.args.limit - 1) h) c.sampling_bound.ensures in
     record { does = does_by (part_is k c.args.bits c.args.limit h (sym at ∙ did drew)) drew.same_make; below = tt }

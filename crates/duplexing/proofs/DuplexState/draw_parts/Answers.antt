@@ -15,41 +15,41 @@ returns-then-bits-single g c =
     let k = making d image (shape c.args.self.now) in
     let h = held c.args.self.now in
     let one : leb c.args.bits d.single ≡ true = le-leb _ _ (omega (arith, c.single.ensures)) in
-    let drew = c.draw-part.ensures.does in
+    let drew = c.draw_part.ensures.does in
     record { does = does_by (parts_one k c.args.bits c.args.limit h one ∙ did drew) drew.same_make }
 
-pub returns-in-err-low : goal.returns-in-err-low
-returns-in-err-low g c =
+pub returns-in_err-low : goal.returns-in_err-low
+returns-in_err-low g c =
     let d = g.D.Domain.arithmetic in
     let image = g.P.CryptographicPermutation.image c.args.permutation.now in
     let k = making d image (shape c.args.self.now) in
     let h = held c.args.self.now in
     let more : leb c.args.bits d.single ≡ false = lt-leb _ _ (omega (arith, c.single.ensures)) in
-    let low = c.in-err-low.ensures.does in
-    let p = err_from_is_err_and c.from-residual.result c.from-residual.ensures.1 in
+    let low = c.in_err-low.ensures.does in
+    let p = err_from_is_err_and c.from_residual.result c.from_residual.ensures.1 in
     let e = p.1 ∙ ap Err p.2 in
-    record { does = does_by (parts_refused k c.args.bits c.args.limit h more _ c.in-err-low.field-0.0 (did low) ∙ ap (λ s. reply s (held c.draw-part-2.new.self)) (sym e)) low.same_make }
+    record { does = does_by (parts_refused k c.args.bits c.args.limit h more _ c.in_err-low.field-0.0 (did low) ∙ ap (λ s. reply s (held c.draw_part-2.new.self)) (sym e)) low.same_make }
 
-pub returns-in-err-high : goal.returns-in-err-high
-returns-in-err-high g c =
+pub returns-in_err-high : goal.returns-in_err-high
+returns-in_err-high g c =
     let d = g.D.Domain.arithmetic in
     let image = g.P.CryptographicPermutation.image c.args.permutation.now in
     let k = making d image (shape c.args.self.now) in
     let h = held c.args.self.now in
     let more : leb c.args.bits d.single ≡ false = lt-leb _ _ (omega (arith, c.single.ensures)) in
-    let low = c.in-ok-low.ensures.does in
-    let high = c.in-err-high.ensures.does in
-    let at = ap (λ q. part_of (making d image q) (c.args.bits - c.args.bits / 2) c.args.limit (held c.draw-part-2.new.self)) low.same_make in
-    let p = err_from_is_err_and c.from-residual-in-err-high.result c.from-residual-in-err-high.ensures.1 in
+    let low = c.in_ok-low.ensures.does in
+    let high = c.in_err-high.ensures.does in
+    let at = ap (λ q. part_of (making d image q) (c.args.bits - c.args.bits / 2) c.args.limit (held c.draw_part-2.new.self)) low.same_make in
+    let p = err_from_is_err_and c.from_residual-in_err-high.result c.from_residual-in_err-high.ensures.1 in
     let e = p.1 ∙ ap Err p.2 in
     record {
       does = does_by
-          (parts_both k c.args.bits c.args.limit h more _ c.in-ok-low.low (Err c.in-err-high.field-0.0) _ (did low) (sym at ∙ did high) ∙ ap (λ s. reply s (held c.draw-part-3.new.self)) (sym e))
+          (parts_both k c.args.bits c.args.limit h more _ c.in_ok-low.low (Err c.in_err-high.field-0.0) _ (did low) (sym at ∙ did high) ∙ ap (λ s. reply s (held c.draw_part-3.new.self)) (sym e))
           (high.same_make ∙ low.same_make);
     }
 
 pub join-requires : goal.join-requires
-join-requires g c = record { low = c.in-ok-low.ensures.below; high = c.in-ok-high.ensures.below; few = omega arith }
+join-requires g c = record { low = c.in_ok-low.ensures.below; high = c.in_ok-high.ensures.below; few = omega arith }
 
 pub returns : goal.returns
 returns g c =
@@ -58,11 +58,11 @@ returns g c =
     let k = making d image (shape c.args.self.now) in
     let h = held c.args.self.now in
     let more : leb c.args.bits d.single ≡ false = lt-leb _ _ (omega (arith, c.single.ensures)) in
-    let low = c.in-ok-low.ensures.does in
-    let high = c.in-ok-high.ensures.does in
-    let at = ap (λ q. part_of (making d image q) (c.args.bits - c.args.bits / 2) c.args.limit (held c.draw-part-2.new.self)) low.same_make in
+    let low = c.in_ok-low.ensures.does in
+    let high = c.in_ok-high.ensures.does in
+    let at = ap (λ q. part_of (making d image q) (c.args.bits - c.args.bits / 2) c.args.limit (held c.draw_part-2.new.self)) low.same_make in
     record {
       does = does_by
-          (parts_both k c.args.bits c.args.limit h more _ c.in-ok-low.low (Ok c.in-ok-high.high) _ (did low) (sym at ∙ did high) ∙ ap (λ v. reply (Ok v) (held c.draw-part-3.new.self)) (sym c.join.ensures))
+          (parts_both k c.args.bits c.args.limit h more _ c.in_ok-low.low (Ok c.in_ok-high.high) _ (did low) (sym at ∙ did high) ∙ ap (λ v. reply (Ok v) (held c.draw_part-3.new.self)) (sym c.join.ensures))
           (high.same_make ∙ low.same_make);
     }

@@ -11,7 +11,7 @@ use Rattle.duplexing.proofs.DuplexState.observe.Goals as goal
 
 pub take-requires : goal.take-requires
 take-requires g c =
-    (lit< tt, all_codes-codes g.row.ORDER c.args.codes.now (sym c.all_codes.ensures ∙ c.if-not-all-codes.false) c.loop-c.c-index c.loop-c-test.true)
+    (lit< tt, all_codes-codes g.row.ORDER c.args.codes.now (sym c.all_codes.ensures ∙ c.if-not-all_codes.false) c.loop-c.c-index c.loop-c-test.true)
 
 pub loop-c-preserved : goal.loop-c-preserved
 loop-c-preserved g c =
@@ -31,6 +31,6 @@ returns g c =
     let k = making g.D.Domain.arithmetic (g.P.CryptographicPermutation.image c.args.permutation.now) (shape c.args.self.now) in
     let h = held c.args.self.now in
     let xs = c.args.codes.now in
-    let all : all_codes g.row.ORDER xs ≡ true = sym c.all_codes.ensures ∙ c.if-not-all-codes.false in
+    let all : all_codes g.row.ORDER xs ≡ true = sym c.all_codes.ensures ∙ c.if-not-all_codes.false in
     let done = sym (at_drop_all (all_taken k (held c.loop-c.self)) xs c.loop-c.c-index c.loop-c-test.false) ∙ c.loop-c.invariant.0 in
     record { does = does_by (ap (λ o. observe_of o h) (cond-true _ (Ok (all_taken k h xs)) _ all ∙ ap Ok (sym done))) c.loop-c.invariant.1 }

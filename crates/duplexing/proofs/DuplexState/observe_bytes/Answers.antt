@@ -6,7 +6,7 @@ use Rattle.duplexing.proofs.DuplexState.observe_bytes.Goals as goal
 
 pub take-requires : goal.take-requires
 take-requires g c =
-    let code : get_or c.args.bytes.now c.loop-b.b-index 0 < g.row.ORDER = omega (arith, c.type-inv.bytes c.loop-b.b-index, c.requires.codes) in
+    let code : get_or c.args.bytes.now c.loop-b.b-index 0 < g.row.ORDER = omega (arith, c.type_inv.bytes c.loop-b.b-index, c.requires.codes) in
     (lit< tt, code)
 
 pub loop-b-preserved : goal.loop-b-preserved

@@ -14,9 +14,9 @@ returns g c =
     let e = c.prepare.ensures.state in
     record {
       does = record {
-        answer = c.pop-output.ensures.value ∙ ap (λ (h : DuplexHeld). last_output h.outputs) e;
-        state = ap (λ (t : SpongeState). beside t (held c.prepare.new.self).pending) c.pop-output.ensures.state ∙ ap (without_output k) e;
-        same_make = same_shape c.pop-output.ensures.width c.pop-output.ensures.rate ∙ c.prepare.ensures.shape;
+        answer = c.pop_output.ensures.value ∙ ap (λ (h : DuplexHeld). last_output h.outputs) e;
+        state = ap (λ (t : SpongeState). beside t (held c.prepare.new.self).pending) c.pop_output.ensures.state ∙ ap (without_output k) e;
+        same_make = same_shape c.pop_output.ensures.width c.pop_output.ensures.rate ∙ c.prepare.ensures.shape;
       };
-      code = c.pop-output.ensures.code;
+      code = c.pop_output.ensures.code;
     }

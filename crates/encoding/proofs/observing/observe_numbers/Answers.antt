@@ -15,8 +15,8 @@ returns-then-numbers-room g c =
     let no = too_many c.args.size c.requires.bytes m h xs c.requires.some lt in
     record { does = does_by (ap (λ r. observe_of r h) (cond-false _ _ _ no)) refl }
 
-pub put-numbers-requires : goal.put-numbers-requires
-put-numbers-requires g c =
+pub put_numbers-requires : goal.put_numbers-requires
+put_numbers-requires g c =
     let t = c.args.transcript.now in
     let m = g.T.ByteTranscript.meaning (g.T.Holding.make t) in
     let h = g.T.Holding.held t in
@@ -32,4 +32,4 @@ returns g c =
     let xs = c.args.numbers.now in
     let le = subst (λ r. length xs ≤ r / c.args.size) c.room.ensures c.if-numbers-room.false in
     let ok = all_fit c.args.size c.requires.bytes m h xs c.requires.some le in
-    record { does = does_by (ap (λ r. observe_of r h) (cond-true _ _ _ ok) ∙ ap (reply (Ok tt)) (sym c.put-numbers.ensures.left)) c.put-numbers.ensures.kept }
+    record { does = does_by (ap (λ r. observe_of r h) (cond-true _ _ _ ok) ∙ ap (reply (Ok tt)) (sym c.put_numbers.ensures.left)) c.put_numbers.ensures.kept }

@@ -5,8 +5,8 @@ use Rattle.encoding.specs.Encoding.{low_bytes, encoded}
 use Rattle.encoding.proofs.Fitting.{length-low, puts-append, fits-first, fits-then}
 use Rattle.encoding.proofs.observing.put_numbers.Goals as goal
 
-pub put-number-requires : goal.put-number-requires
-put-number-requires g c =
+pub put_number-requires : goal.put_number-requires
+put_number-requires g c =
     let m = g.T.ByteTranscript.meaning (g.T.Holding.make c.args.transcript.now) in
     let s = g.T.Holding.held c.loop-number.transcript in
     let size = c.args.size in
@@ -30,9 +30,9 @@ loop-number-preserved g c =
     let rest = encoded size (drop (i + 1) xs) in
     let ok : fits m s (low_bytes size x ++ rest) ≡ true =
     sym (at_drop_more (λ ys. fits m s (encoded size ys)) xs i 0 c.loop-number-test.true) ∙ c.loop-number.invariant.2 in
-    let is : g.T.Holding.held c.put-number.new.transcript ≡ puts m s (low_bytes size x) =
-    c.put-number.ensures.left ∙ ap (λ k. puts (g.T.ByteTranscript.meaning k) s (low_bytes size x)) c.loop-number.invariant.0 in (
-      c.put-number.ensures.kept ∙ c.loop-number.invariant.0,
+    let is : g.T.Holding.held c.put_number.new.transcript ≡ puts m s (low_bytes size x) =
+    c.put_number.ensures.left ∙ ap (λ k. puts (g.T.ByteTranscript.meaning k) s (low_bytes size x)) c.loop-number.invariant.0 in (
+      c.put_number.ensures.kept ∙ c.loop-number.invariant.0,
       ap (λ h. puts m h rest) is ∙ sym (puts-append m s (low_bytes size x) rest)
           ∙ sym (at_drop_more (λ ys. puts m s (encoded size ys)) xs i 0 c.loop-number-test.true) ∙ c.loop-number.invariant.1,
       ap (λ h. fits m h rest) is ∙ fits-then m s (low_bytes size x) rest ok,

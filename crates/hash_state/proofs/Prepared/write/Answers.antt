@@ -6,10 +6,10 @@ use Rattle.hash_state.proofs.Prepared.write.Goals as goal
 pub returns : goal.returns
 returns c =
     let p = c.args.self.now in
-    let bytes = c.to-le-bytes.result in
-    let four = ap length c.to-le-bytes.ensures in
+    let bytes = c.to_le_bytes.result in
+    let four = ap length c.to_le_bytes.ensures in
     let put = c.put.ensures.written (omega (arith, p.sized, p.within)) in
     record {
       front = written_before p.bytes bytes c.put.new.to p.count (omega (arith, p.sized, p.within)) put;
-      whole = ap (λ n. take (p.count + n) c.put.new.to) (sym four) ∙ written p.bytes bytes c.put.new.to p.count (omega (arith, p.sized, p.within)) put ∙ ap (λ xs. front p ++ xs) c.to-le-bytes.ensures;
+      whole = ap (λ n. take (p.count + n) c.put.new.to) (sym four) ∙ written p.bytes bytes c.put.new.to p.count (omega (arith, p.sized, p.within)) put ∙ ap (λ xs. front p ++ xs) c.to_le_bytes.ensures;
     }

@@ -8,12 +8,12 @@ use Rattle.multi_blocks.specs.Blocks.{making, absorbing}
 use Rattle.multi_blocks.proofs.Turns.{same_shape, block_more}
 use Rattle.multi_blocks.proofs.absorbing.absorb_words.Goals as goal
 
-pub fill-block-requires : goal.fill-block-requires
-fill-block-requires g c = (lit< tt, (c.requires.codes, (c.rate-rate.ensures.some, (c.rate-rate.ensures.few, c.loop-i-test.true))))
+pub fill_block-requires : goal.fill_block-requires
+fill_block-requires g c = (lit< tt, (c.requires.codes, (c.rate-rate.ensures.some, (c.rate-rate.ensures.few, c.loop-i-test.true))))
 
 pub absorb-requires : goal.absorb-requires
 absorb-requires g c =
-    let l = ap length c.fill-block.ensures ∙ group-length c.rate-rate.result c.rate-rate.ensures.some c.args.words.now c.loop-i.i in
+    let l = ap length c.fill_block.ensures ∙ group-length c.rate-rate.result c.rate-rate.ensures.some c.args.words.now c.loop-i.i in
     (lit< tt, (lit< tt, (omega (arith, l, c.rate-rate.ensures.value, c.loop-i.invariant.1), omega (arith, l, c.len.ensures, c.rate-rate.ensures.few))))
 
 pub loop-i-preserved : goal.loop-i-preserved
@@ -25,11 +25,11 @@ loop-i-preserved g c =
     let t = c.loop-i.sponge in
     let inv = c.loop-i.invariant in
     let turn = c.absorb.ensures.state
-    ∙ ap (λ p. block_turn (making d image p) (sponge.held t).row (items c.fill-block.new.block) c.len.result) (same_shape inv.0 inv.1) in (
+    ∙ ap (λ p. block_turn (making d image p) (sponge.held t).row (items c.fill_block.new.block) c.len.result) (same_shape inv.0 inv.1) in (
       c.absorb.ensures.width ∙ inv.0,
       c.absorb.ensures.rate ∙ inv.1,
       block_more k (sponge.held s) (sponge.held t) _ c.args.words.now _ c.loop-i.i c.rate-rate.result c.len.result
-          c.rate-rate.ensures.value inv.2 c.fill-block.ensures c.len.ensures turn,
+          c.rate-rate.ensures.value inv.2 c.fill_block.ensures c.len.ensures turn,
     )
 
 pub returns : goal.returns

@@ -7,11 +7,11 @@ use Rattle.sponge.specs.CodesBlockLaws.{all_codes-codes}
 use Rattle.multi_blocks.proofs.Lists.{take_smaller}
 use Rattle.multi_blocks.proofs.absorbing.fill_block.Goals as goal
 
-pub overflow-mul-start : goal.overflow-mul-start
-overflow-mul-start g c = omega (arith, group_inside c.args.rate c.requires.some c.args.words.now c.args.i c.requires.inside)
+pub overflow_mul-start : goal.overflow_mul-start
+overflow_mul-start g c = omega (arith, group_inside c.args.rate c.requires.some c.args.words.now c.args.i c.requires.inside)
 
-pub overflow-sub-words : goal.overflow-sub-words
-overflow-sub-words g c = omega (arith, group_inside c.args.rate c.requires.some c.args.words.now c.args.i c.requires.inside)
+pub overflow_sub-words : goal.overflow_sub-words
+overflow_sub-words g c = omega (arith, group_inside c.args.rate c.requires.some c.args.words.now c.args.i c.requires.inside)
 
 pub push-requires : goal.push-requires
 push-requires g c =

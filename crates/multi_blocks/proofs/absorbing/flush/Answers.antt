@@ -11,8 +11,8 @@ use Rattle.multi_blocks.specs.Blocks.{making}
 use Rattle.multi_blocks.proofs.Lists.{words-few}
 use Rattle.multi_blocks.proofs.absorbing.flush.Goals as goal
 
-pub pack-all-requires : goal.pack-all-requires
-pack-all-requires g c =
+pub pack_all-requires : goal.pack_all-requires
+pack_all-requires g c =
     let s = c.args.sponge.now in
     let n = c.args.numbers.now in
     let up : n.limbs * s.rate ≤ n.limbs * 64 = mul-le n.limbs s.rate n.limbs 64 (omega arith) (omega (arith, s.wide, s.sized, items-length s.row, s.row.within)) in
@@ -28,7 +28,7 @@ absorb-requires g c =
       (
         lit< tt,
         (
-          words-few g.row.SAMPLED g.row.ORDER (omega (arith, n.low)) n.small n.less (omega (arith, g.ORDER.fits)) s.rate (items b) _ c.pack-all.ensures room,
+          words-few g.row.SAMPLED g.row.ORDER (omega (arith, n.low)) n.small n.less (omega (arith, g.ORDER.fits)) s.rate (items b) _ c.pack_all.ensures room,
           omega (arith, c.len.ensures, items-length b, b.within),
         ),
       ),
@@ -40,7 +40,7 @@ returns g c =
     let k = making g.D.Domain.arithmetic (g.P.CryptographicPermutation.image c.args.permutation.now) (s.width, s.rate) in
     let row = (sponge.held s).row in
     record {
-      state = c.absorb.ensures.state ∙ ap (λ ws. block_turn k row ws c.len.result) c.pack-all.ensures
+      state = c.absorb.ensures.state ∙ ap (λ ws. block_turn k row ws c.len.result) c.pack_all.ensures
           ∙ ap (block_turn k row (packed (code_bits g.row.SAMPLED) (limbs g.row.SAMPLED g.row.ORDER) (items c.args.pending.now))) c.len.ensures;
       emptied = c.clear.ensures;
       width = c.absorb.ensures.width;

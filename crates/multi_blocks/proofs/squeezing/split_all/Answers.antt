@@ -16,8 +16,8 @@ loop-i-init g c = (
   ap (λ xs. xs ++ spread g.row.SAMPLED c.args.digits (items c.args.outputs.now)) c.clear.ensures,
 )
 
-pub push-digits-requires : goal.push-digits-requires
-push-digits-requires g c =
+pub push_digits-requires : goal.push_digits-requires
+push_digits-requires g c =
     let s = c.args.outputs.now in
     let k = c.args.digits in
     let i = c.loop-i.i in
@@ -33,7 +33,7 @@ loop-i-preserved g c =
     let b = g.row.SAMPLED in
     let q = items c.loop-i.squeeze in
     let w = get_or s i 0 in
-    let pushed : items c.push-digits.new.scalars ≡ q ++ split b k w = c.push-digits.ensures ∙ ap (λ x. q ++ split b k x) c.get.ensures.value in
+    let pushed : items c.push_digits.new.scalars ≡ q ++ split b k w = c.push_digits.ensures ∙ ap (λ x. q ++ split b k x) c.get.ensures.value in
     let step : spread b k (drop i s) ≡ split b k w ++ spread b k (drop (i + 1) s) = at_drop_more (spread b k) s i 0 (omega (arith, c.len-i-end.ensures, c.loop-i-test.true)) in (
       ap length pushed ∙ length-append q (split b k w) ∙ omega (arith, split-length b k w, c.loop-i.invariant.0, next i k),
       ap (λ xs. xs ++ spread b k (drop (i + 1) s)) pushed ∙ append_assoc q (split b k w) (spread b k (drop (i + 1) s)) ∙ ap (λ ys. q ++ ys) (sym step) ∙ c.loop-i.invariant.1,

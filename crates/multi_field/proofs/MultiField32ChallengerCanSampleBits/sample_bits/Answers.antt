@@ -4,4 +4,4 @@ use Rattle.multi_state.specs.Holds.{held, shape, made}
 use Rattle.multi_field.proofs.MultiField32ChallengerCanSampleBits.sample_bits.Goals as goal
 
 pub returns : goal.returns
-returns g c = record { does = hands_on made shape held (λ s. s.state) (λ s. s.permutation) refl c.sample-bits.ensures.does }
+returns g c = record { does = hands_on made shape held (λ s. s.state) (λ s. s.permutation) refl c.sample_bits.ensures.does }

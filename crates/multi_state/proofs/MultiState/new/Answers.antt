@@ -6,8 +6,8 @@ use Rattle.packing.specs.PackingLaws.{limbs-some}
 use Rattle.multi_blocks.proofs.Lists.{product_small}
 use Rattle.multi_state.proofs.MultiState.new.Goals as goal
 
-pub overflow-mul-batch : goal.overflow-mul-batch
-overflow-mul-batch g c =
+pub overflow_mul-batch : goal.overflow_mul-batch
+overflow_mul-batch g c =
     let s = c.in-Some.sponge in
     let n = c.new-numbers.result in
     let r = c.in-Some.ensures.rate_is in
@@ -17,8 +17,8 @@ overflow-mul-batch g c =
           (omega (arith, r, s.wide, s.sized, items-length s.row, s.row.within)),
     )
 
-pub invariant-of-result : goal.invariant-of-result
-invariant-of-result g c =
+pub invariant_of-result : goal.invariant_of-result
+invariant_of-result g c =
     let s = c.in-Some.sponge in
     let n = c.new-numbers.result in
     let r : n.limbs * s.rate ≡ c.limbs.result * c.args.rate = ap (λ m. n.limbs * m) c.in-Some.ensures.rate_is ∙ ap (λ m. m * c.args.rate) (sym c.limbs.ensures) in

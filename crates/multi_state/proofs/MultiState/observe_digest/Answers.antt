@@ -20,17 +20,17 @@ returns g c =
     let image = g.P.CryptographicPermutation.image c.args.permutation.now in
     let k = making d image (shape s) in
     let ws = c.args.words.now in
-    let all : all_codes g.row.ORDER ws ≡ true = sym c.all_codes.ensures ∙ c.if-not-all-codes.false in
-    let dropped = same_shape c.drop-outputs.ensures.width c.drop-outputs.ensures.rate in
-    let begun : beside (sponge.held c.drop-outputs.new.self) (items s.pending) (items c.clear.new.self) ≡ holding (held s).row (held s).pending [] [] =
-    ap (λ x. beside x (items s.pending) (items c.clear.new.self)) c.drop-outputs.ensures.state ∙ ap (holding (held s).row (held s).pending []) c.clear.ensures in
+    let all : all_codes g.row.ORDER ws ≡ true = sym c.all_codes.ensures ∙ c.if-not-all_codes.false in
+    let dropped = same_shape c.drop_outputs.ensures.width c.drop_outputs.ensures.rate in
+    let begun : beside (sponge.held c.drop_outputs.new.self) (items s.pending) (items c.clear.new.self) ≡ holding (held s).row (held s).pending [] [] =
+    ap (λ x. beside x (items s.pending) (items c.clear.new.self)) c.drop_outputs.ensures.state ∙ ap (holding (held s).row (held s).pending []) c.clear.ensures in
     let f = held c.settle.new.self in
     let settled_is : f ≡ settled g.row.SAMPLED k (holding (held s).row (held s).pending [] []) =
-    c.settle.ensures.state ∙ ap (λ p. settled g.row.SAMPLED (making d image p) (beside (sponge.held c.drop-outputs.new.self) (items s.pending) (items c.clear.new.self))) dropped ∙ ap (settled g.row.SAMPLED k) begun in
+    c.settle.ensures.state ∙ ap (λ p. settled g.row.SAMPLED (making d image p) (beside (sponge.held c.drop_outputs.new.self) (items s.pending) (items c.clear.new.self))) dropped ∙ ap (settled g.row.SAMPLED k) begun in
     let same = c.settle.ensures.shape ∙ dropped in
-    let absorbed_is : sponge.held c.absorb-words.new.sponge ≡ absorbing k (sponge_of f) ws (groups k.rate ws) =
-    c.absorb-words.ensures.state ∙ ap (λ p. absorbing (making d image p) (sponge_of f) ws (groups p.1 ws)) same in
+    let absorbed_is : sponge.held c.absorb_words.new.sponge ≡ absorbing k (sponge_of f) ws (groups k.rate ws) =
+    c.absorb_words.ensures.state ∙ ap (λ p. absorbing (making d image p) (sponge_of f) ws (groups p.1 ws)) same in
     record {
       does = does_by (ap (λ o. observe_of o (held s)) (cond-true _ _ _ all ∙ ap Ok (sym (digested_is g.row.SAMPLED k (held s) f _ ws settled_is absorbed_is))))
-          (same_shape c.absorb-words.ensures.width c.absorb-words.ensures.rate ∙ same);
+          (same_shape c.absorb_words.ensures.width c.absorb_words.ensures.rate ∙ same);
     }

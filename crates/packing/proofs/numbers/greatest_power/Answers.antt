@@ -20,11 +20,11 @@ double base power two =
 pub loop-power-init : goal.loop-power-init
 loop-power-init c = (sym (pow-zero c.args.base), omega arith, omega arith)
 
-pub overflow-mul-power : goal.overflow-mul-power
-overflow-mul-power c = omega (arith, up c.args.base c.args.order c.loop-power.power (omega arith))
+pub overflow_mul-power : goal.overflow_mul-power
+overflow_mul-power c = omega (arith, up c.args.base c.args.order c.loop-power.power (omega arith))
 
-pub overflow-add-n : goal.overflow-add-n
-overflow-add-n c =
+pub overflow_add-n : goal.overflow_add-n
+overflow_add-n c =
     let p : c.args.base ^ c.loop-power.n ≤ c.args.order = omega (arith, c.loop-power.invariant.0, c.loop-power.invariant.1) in
     omega (arith, power_few c.args.base c.args.order c.loop-power.n (omega arith) (omega arith) p)
 

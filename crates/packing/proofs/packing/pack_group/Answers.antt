@@ -6,13 +6,13 @@ use Rattle.packing.specs.Packing.{pack, group}
 use Rattle.packing.proofs.Groups.{size-some, start_inside, group-size, part_word, part_none, part_more, times}
 use Rattle.packing.proofs.packing.pack_group.Goals as goal
 
-pub overflow-mul-start : goal.overflow-mul-start
-overflow-mul-start g c =
+pub overflow_mul-start : goal.overflow_mul-start
+overflow_mul-start g c =
     let b = c.args.scalars.now in
     omega (arith, start_inside g.row.SAMPLED g.row.ORDER c.requires.low c.requires.small c.requires.less (omega (arith, g.ORDER.fits)) c.args.size c.requires.size (items b) b.codes c.args.i c.requires.inside, items-length b, b.within)
 
-pub overflow-sub-rest : goal.overflow-sub-rest
-overflow-sub-rest g c =
+pub overflow_sub-rest : goal.overflow_sub-rest
+overflow_sub-rest g c =
     let b = c.args.scalars.now in
     omega (arith, start_inside g.row.SAMPLED g.row.ORDER c.requires.low c.requires.small c.requires.less (omega (arith, g.ORDER.fits)) c.args.size c.requires.size (items b) b.codes c.args.i c.requires.inside, items-length b)
 
@@ -23,8 +23,8 @@ loop-j-init g c =
     let e : c.smaller-j.result ≡ length (group c.args.size (items b) c.args.i) = omega (arith, l, c.smaller-j.ensures, c.len.ensures) in
     (omega arith, part_none g.row.SAMPLED g.row.ORDER c.requires.low c.requires.small c.requires.less (omega (arith, g.ORDER.fits)) c.args.size c.requires.size (items b) b.codes c.args.i c.smaller-j.result (omega arith))
 
-pub overflow-add-start : goal.overflow-add-start
-overflow-add-start g c =
+pub overflow_add-start : goal.overflow_add-start
+overflow_add-start g c =
     let b = c.args.scalars.now in
     let l = group-size g.row.SAMPLED g.row.ORDER c.requires.low c.requires.small c.requires.less (omega (arith, g.ORDER.fits)) c.args.size c.requires.size (items b) b.codes c.args.i in
     omega (arith, l, c.loop-j.invariant.0, items-length b, b.within)
@@ -35,8 +35,8 @@ get-requires g c =
     let l = group-size g.row.SAMPLED g.row.ORDER c.requires.low c.requires.small c.requires.less (omega (arith, g.ORDER.fits)) c.args.size c.requires.size (items b) b.codes c.args.i in
     (lit< tt, omega (arith, l, c.loop-j.invariant.0))
 
-pub overflow-mul-word : goal.overflow-mul-word
-overflow-mul-word g c =
+pub overflow_mul-word : goal.overflow_mul-word
+overflow_mul-word g c =
     let b = c.args.scalars.now in
     let s = c.args.size in
     let i = c.args.i in
@@ -46,8 +46,8 @@ overflow-mul-word g c =
     let w : c.loop-j.word * c.args.radix ≡ pack (code_bits g.row.SAMPLED) (drop j (group s (items b) i)) * 2 ^ code_bits g.row.SAMPLED = times c.loop-j.word _ c.args.radix _ c.loop-j.invariant.1 c.requires.radix in
     omega (arith, more, less, w, g.ORDER.fits)
 
-pub overflow-add-word : goal.overflow-add-word
-overflow-add-word g c =
+pub overflow_add-word : goal.overflow_add-word
+overflow_add-word g c =
     let b = c.args.scalars.now in
     let s = c.args.size in
     let i = c.args.i in

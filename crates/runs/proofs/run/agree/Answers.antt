@@ -5,8 +5,8 @@ use Rattle.runs.proofs.run.agree.Goals as goal
 
 pub returns : goal.returns
 returns g c =
-    let proves = c.prove-run.ensures.run in
-    let verifies = c.verify-run.ensures.run in
+    let proves = c.prove_run.ensures.run in
+    let verifies = c.verify_run.ensures.run in
     let proved : length c.args.proved.now ≡ length c.args.calls.now = omega arith in
     let said : length c.args.said.now ≡ length c.args.calls.now = omega arith in
     record {
@@ -16,6 +16,6 @@ returns g c =
         verifies = verifies;
         agrees = agreement _ _ _ _ _ _ _ _ _ _ _ (g.P.Challenger.stands _) proves verifies;
       };
-      rest = c.verify-run.ensures.rest;
-      makes = (c.prove-run.ensures.make, c.verify-run.ensures.make);
+      rest = c.verify_run.ensures.rest;
+      makes = (c.prove_run.ensures.make, c.verify_run.ensures.make);
     }

@@ -12,9 +12,9 @@ replaced c a = repeats (kind c) a
 pub returns-in-Ground : goal.returns-in-Ground
 returns-in-Ground c = sym (ap (λ x. replaced x c.args.said.now) c.in-Grind.is ∙ ap (λ a. for_grind c.in-Grind.bits (witness a)) c.in-Ground.is)
 
-pub returns-in-default-said : goal.returns-in-default-said
-returns-in-default-said c =
-    sym (ap (λ x. replaced x c.args.said.now) c.in-Grind.is ∙ ap (for_grind c.in-Grind.bits) (no_witness c.args.said.now c.in-default-said.not-Ground))
+pub returns-in_default-said : goal.returns-in_default-said
+returns-in_default-said c =
+    sym (ap (λ x. replaced x c.args.said.now) c.in-Grind.is ∙ ap (for_grind c.in-Grind.bits) (no_witness c.args.said.now c.in_default-said.not-Ground))
 
-pub returns-in-default : goal.returns-in-default
-returns-in-default c = repeats-other (kind c.args.call.now) c.args.said.now c.in-default.not-Grind
+pub returns-in_default : goal.returns-in_default
+returns-in_default c = repeats-other (kind c.args.call.now) c.args.said.now c.in_default.not-Grind

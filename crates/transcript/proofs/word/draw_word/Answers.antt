@@ -4,10 +4,10 @@ use Rattle.transcript.proofs.word.draw_word.Goals as goal
 pub returns : goal.returns
 unfolding word
 returns g c =
-    let a = c.sample-byte-a.ensures.does in
-    let b = c.sample-byte-b.ensures.does in
-    let d = c.sample-byte-c.ensures.does in
-    let e = c.sample-byte-d.ensures.does in
+    let a = c.sample_byte-a.ensures.does in
+    let b = c.sample_byte-b.ensures.does in
+    let d = c.sample_byte-c.ensures.does in
+    let e = c.sample_byte-d.ensures.does in
     let aa = a.answer in
     let sa = a.state in
     let am = a.same_make in
@@ -20,5 +20,5 @@ returns g c =
     let ea = e.answer in
     let es = e.state in
     let em = e.same_make in
-    let w = c.word-of.ensures in
+    let w = c.word_of.ensures in
     record { does = record { answer = cc; state = cc; same_make = cc } }

@@ -1,10 +1,8 @@
 -- The verifier's run repeats the prover's, for every rule by which a check stands in a grind's place.
-use Rattle.std.proofs.Common.{◌≡◌, ℕ, true, List, [], ◌∷◌, ◌++◌, Some, None, Option, sym, refl, ap, ◌∙◌, subst}
-use Rattle.interface.specs.Meaning.{Reply, reply}
+use Rattle.std.proofs.Common.{◌≡◌, ℕ, List, [], ◌∷◌, ◌++◌, Some, None, Option, sym, refl, ap, ◌∙◌, subst}
 use Rattle.runs.specs.declared.call.Call.{Call}
 use Rattle.runs.specs.declared.call.Call.TheVariants.{CheckWitness, Grind}
 use Rattle.runs.specs.declared.call.Answer.{Answer}
-use Rattle.runs.specs.declared.call.Answer.TheVariants.{Checked}
 use Rattle.runs.specs.Runs.{Rule, Kind, grinding, other, kind, witness, Stands, ChecksStand, answers, ends, Run, for_grind, repeats, repeated, Repeats, ended, again, checked, skipped, OneMake, Agree}
 
 module _ {Held : Type 0} (rule : Rule Held) where

@@ -1,11 +1,9 @@
 -- Proof only: in every challenger whose check and grind are those of the interface, a check stands in a grind's place.
-use Rattle.std.specs.Prelude.{◌≡◌, ℕ, true, Ok, Err, Result, refl}
+use Rattle.std.specs.Prelude.{◌≡◌, ℕ, Ok, Err, Result}
 use Rattle.std.proofs.Common.{ap}
 use Rattle.refusal.specs.declared.Refusal.{Refusal}
-use Rattle.interface.specs.Meaning.{Reply, reply}
 use Rattle.interface.specs.Grinding.{Means, check_of, grind_of}
 use Rattle.interface.specs.GrindingLaws.{InPlace, grind_in_place}
-use Rattle.runs.specs.declared.call.Answer.TheVariants.{Checked}
 use Rattle.runs.specs.declared.call.Call.TheVariants.{CheckWitness, Grind}
 use Rattle.runs.specs.Answers.{as_checked, as_ground, answered}
 use Rattle.runs.specs.Runs.{Rule, Stands, ChecksStand, witness}

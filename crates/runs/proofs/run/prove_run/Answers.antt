@@ -1,4 +1,4 @@
-use Rattle.std.proofs.Common.{◌≡◌, ◌+◌, ◌<◌, ◌≤◌, ◌++◌, length, get_or, take, drop, sym, refl, ap, ◌∙◌, arith, length-set}
+use Rattle.std.proofs.Common.{◌+◌, ◌<◌, ◌++◌, length, get_or, take, drop, sym, ap, ◌∙◌, arith, length-set}
 use Rattle.std.proofs.lemmas.List.{drop_more, drop_all, append-nil, take_all}
 use Rattle.interface.specs.Meaning.{Reply}
 use Rattle.runs.specs.Runs.{answers, ends}

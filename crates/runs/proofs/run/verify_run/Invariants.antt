@@ -1,4 +1,4 @@
-use Rattle.std.proofs.Common.{◌≡◌, ◌≤◌, ◌++◌, length, take, drop}
+use Rattle.std.proofs.Common.{◌≡◌, ◌≤◌, ◌++◌, take, drop}
 use Rattle.runs.specs.Runs.{answers, ends, repeated}
 use Rattle.runs.proofs.run.verify_run.Given as goal
 

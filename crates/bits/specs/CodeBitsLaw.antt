@@ -1,6 +1,6 @@
 -- Proof only, not to be read to believe a contract: the bits of a code are the least. Assumes nothing.
-use Rattle.std.specs.Prelude.{◌≡◌, ℕ, ◌^◌, ◌<◌, ◌≤◌, Bool, true, false, nat_le}
-use Rattle.std.proofs.Common.{sym, ◌∙◌, arith, lit<}
+use Rattle.std.specs.Prelude.{ℕ, ◌^◌, ◌<◌, ◌≤◌, Bool, nat_le}
+use Rattle.std.proofs.Common.{arith}
 use Rattle.std.proofs.Math.Logic.{⊎_elim}
 use Rattle.std.proofs.lemmas.Bool.{le-leb, leb-true, cases_lt, both_ways}
 use Rattle.interface.specs.Grinding.{first}

@@ -13,7 +13,7 @@ pub trait CanDraw: Holding {
     ghost drawn: { Self.Make → Self.Held → Reply ℕ (Self.Held) };
 
     fn draw(&mut self) -> u64
-        ensures does { Does make held self.old self.new result (drawn (make self.old) (held self.old)) };
+        ensures does { Does Self.make Self.held self.old self.new result (drawn (Self.make self.old) (Self.held self.old)) };
 }
 
 /// Draws until a value is below the bound, at most once and `more` times. Refused, it tells the value drawn last and the bound.

@@ -20,16 +20,16 @@ pub trait ByteTranscript: Holding {
 
     /// How many bytes may still be observed.
     fn room(&self) -> u64
-        ensures { result ≡ (meaning (make self.now)).room (held self.now) };
+        ensures { result ≡ (meaning (Self.make self.now)).room (Self.held self.now) };
 
     /// Observes all the bytes, or none if they exceed the room.
     fn observe_bytes(&mut self, bytes: &[u8]) -> Result<(), Refusal>
-        ensures does { Does make held self.old self.new result (observe_of (bytes_observed (meaning (make self.old)) (held self.old) bytes.now) (held self.old)) };
+        ensures does { Does Self.make Self.held self.old self.new result (observe_of (bytes_observed (meaning (Self.make self.old)) (Self.held self.old) bytes.now) (Self.held self.old)) };
 
     /// Draws one byte. What is held is one of the values that the laws speak of, so that the room is then at least 8.
     fn sample_byte(&mut self) -> u8
-        ensures does { Does make held self.old self.new result (reply ((meaning (make self.old)).byte (held self.old)) ((meaning (make self.old)).next (held self.old))) }
-        ensures sound { (meaning (make self.old)).sound (held self.old) ≡ true };
+        ensures does { Does Self.make Self.held self.old self.new result (reply ((meaning (Self.make self.old)).byte (Self.held self.old)) ((meaning (Self.make self.old)).next (Self.held self.old))) }
+        ensures sound { (meaning (Self.make self.old)).sound (Self.held self.old) ≡ true };
 }
 
 /// Finding a witness.

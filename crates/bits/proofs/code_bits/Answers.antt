@@ -1,4 +1,4 @@
-use Rattle.std.proofs.Common.{◌≡◌, ◌^◌, ◌≤◌, true, leb, sym, subst, arith, lit<}
+use Rattle.std.proofs.Common.{◌≡◌, ◌^◌, true, leb, sym, subst, arith, lit<}
 use Rattle.std.proofs.lemmas.Nat.{one_shl}
 use Rattle.std.proofs.lemmas.Bool.{le-leb}
 use Rattle.interface.specs.GrindingLaws.{first_is}

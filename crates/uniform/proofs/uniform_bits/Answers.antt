@@ -1,4 +1,4 @@
-use Rattle.std.proofs.Common.{◌≡◌, true, false, sym, refl}
+use Rattle.std.proofs.Common.{sym, refl}
 use Rattle.std.proofs.lemmas.Bool.{eq-eqb, ne_eqb, ltb-true, leb-true, and_parts}
 use Rattle.interface.proofs.Checks.{does_by, did}
 use Rattle.uniform.proofs.Parts.{uniform_bits, uniform_none, uniform_limit, uniform_drawn}

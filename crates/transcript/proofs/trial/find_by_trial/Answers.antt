@@ -1,4 +1,4 @@
-use Rattle.std.proofs.Common.{◌≡◌, ◌<◌, ◌≤◌, sym, ◌∙◌, arith, rules}
+use Rattle.std.proofs.Common.{◌<◌, ◌≤◌, sym, ◌∙◌, arith, rules}
 use Rattle.transcript.proofs.Sought.{sought-some, sought-none}
 use Rattle.transcript.specs.Transcript.{candidates_of}
 use Rattle.transcript.proofs.trial.find_by_trial.Goals as goal

@@ -1,4 +1,4 @@
-use Rattle.std.proofs.Common.{◌≡◌, [], ap, ◌∙◌, arith}
+use Rattle.std.proofs.Common.{[], ap, ◌∙◌, arith}
 use Rattle.hash_state.specs.Rules.{holding}
 use Rattle.hash_state.specs.Holds.{held}
 use Rattle.hash_state.proofs.States.{appended-some, written}

@@ -1,4 +1,4 @@
-use Rattle.std.proofs.Common.{[], ap, arith}
+use Rattle.std.proofs.Common.{ap, arith}
 use Rattle.std.proofs.lemmas.Bool.{le-leb}
 use Rattle.hash_state.specs.Rules.{fresh}
 use Rattle.hash_state.proofs.States.{written_first}

@@ -1,7 +1,6 @@
-use Rattle.std.proofs.Common.{◌≡◌, sym, ap, ◌∙◌}
+use Rattle.std.proofs.Common.{sym, ap, ◌∙◌}
 use Rattle.std.proofs.lemmas.Slice.Eq.{slice_eq-Decides}
 use Rattle.std.proofs.lemmas.Bool.{both_ways}
-use Rattle.hash_state.specs.Holds.{held}
 use Rattle.hash_state.proofs.States.{same}
 use Rattle.hash_state.proofs.HashState.same_held.Goals as goal
 use Rattle.std.proofs.lemmas.Bool.Decides.{Decides-eqb}

@@ -1,4 +1,4 @@
-use Rattle.std.proofs.Common.{◌≡◌, ◌+◌, ◌++◌, length, take, sym, ap, ◌∙◌, arith}
+use Rattle.std.proofs.Common.{◌+◌, ◌++◌, length, take, sym, ap, ◌∙◌, arith}
 use Rattle.hash_state.specs.Holds.{front}
 use Rattle.hash_state.proofs.States.{written, written_before}
 use Rattle.hash_state.proofs.Prepared.write.Goals as goal

@@ -4,12 +4,17 @@ use Rattle.buffer.specs.Items.{items}
 use Rattle.buffer.proofs.Facts.{items-length, codes-take}
 use Rattle.buffer.proofs.Buffer.pop.Goals as goal
 
-pub invariant-of-self : goal.invariant-of-self
-invariant-of-self g c =
+pub invariant_of-self : goal.invariant_of-self
+invariant_of-self g c =
     let b = c.args.self.now in
     let n = b.count - 1 in
     let shorter = take-take n b.count b.cells (omega arith) in
-    (b.small, (b.sized, (omega (arith, b.within), (rw shorter at (codes-take g.row.ORDER n (items b) b.codes), tt))))
+    record {
+      small = b.small;
+      sized = b.sized;
+      within = omega (arith, b.within);
+      codes = rw shorter at (codes-take g.row.ORDER n (items b) b.codes);
+    }
 
 pub returns : goal.returns
 returns g c =

@@ -4,17 +4,13 @@ use Rattle.std.proofs.lemmas.List.{take-replicate}
 use Rattle.buffer.proofs.Facts.{codes-zeros}
 use Rattle.buffer.proofs.Buffer.zeros.Goals as goal
 
-pub invariant-of-result : goal.invariant-of-result
-invariant-of-result g c = (
-  omega arith,
-  (
-    length-replicate {A = ℕ} g.row.N 0,
-    (
-      omega arith,
-      (rw (take-replicate {X = ℕ} c.args.count g.row.N 0 (omega arith)) (codes-zeros g.row.ORDER c.args.count (omega arith)), tt),
-    ),
-  ),
-)
+pub invariant_of-result : goal.invariant_of-result
+invariant_of-result g c = record {
+  small = omega arith;
+  sized = length-replicate {A = ℕ} g.row.N 0;
+  within = omega arith;
+  codes = rw (take-replicate {X = ℕ} c.args.count g.row.N 0 (omega arith)) (codes-zeros g.row.ORDER c.args.count (omega arith));
+}
 
 pub returns : goal.returns
 returns g c = take-replicate {X = ℕ} c.args.count g.row.N 0 (omega arith)

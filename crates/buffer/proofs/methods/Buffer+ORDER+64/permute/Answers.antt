@@ -3,8 +3,8 @@ use borrow.Rule.Slice.PartMut.{post_of}
 use Rattle.buffer.proofs.Facts.{permuted_front, permuted_length, permuted_codes}
 use Rattle.buffer.proofs.methods.«Buffer+ORDER+64».permute.Goals as goal
 
-pub invariant-of-self : goal.invariant-of-self
-invariant-of-self g c =
+pub invariant_of-self : goal.invariant_of-self
+invariant_of-self g c =
     let b = c.args.self.now in
     let p = c.args.permutation.now in
     let image = g.P.CryptographicPermutation.image p in
@@ -12,16 +12,13 @@ invariant-of-self g c =
     let z : b.count - 0 ≡ b.count = omega arith in
     let e = c.permute.ensures ∙ ap (λ n. image (take n b.cells)) z in
     let rest = post_of 0 (b.count - 0) b.cells in
-    let l : length rest ≡ length b.cells - b.count = rw z (length-drop b.count b.cells) in (
-      b.small,
-      (
-        permuted_length b image lawful c.requires.row c.permute.new.row e rest l,
-        (
-          b.within,
-          (permuted_codes b image lawful c.requires.row c.permute.new.row e rest, tt),
-        ),
-      ),
-    )
+    let l : length rest ≡ length b.cells - b.count = rw z (length-drop b.count b.cells) in
+    record {
+      small = b.small;
+      sized = permuted_length b image lawful c.requires.row c.permute.new.row e rest l;
+      within = b.within;
+      codes = permuted_codes b image lawful c.requires.row c.permute.new.row e rest;
+    }
 
 pub returns : goal.returns
 returns g c =

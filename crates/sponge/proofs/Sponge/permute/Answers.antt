@@ -1,8 +1,12 @@
 use Rattle.sponge.proofs.Turning.{permuted_width}
 use Rattle.sponge.proofs.Sponge.permute.Goals as goal
 
-pub invariant-of-self : goal.invariant-of-self
-invariant-of-self g c =
+pub invariant_of-self : goal.invariant_of-self
+invariant_of-self g c =
     let s = c.args.self.now in
     let p = c.args.permutation.now in
-    (s.some, (s.wide, (permuted_width (g.P.CryptographicPermutation.image p) (g.P.CryptographicPermutation.lawful p) s _ c.permute.ensures, tt)))
+    record {
+      some = s.some;
+      wide = s.wide;
+      sized = permuted_width (g.P.CryptographicPermutation.image p) (g.P.CryptographicPermutation.lawful p) s _ c.permute.ensures;
+    }

@@ -12,10 +12,10 @@ loop-i-preserved g c =
     let rate = c.args.rate in
     let i = c.loop-i.i in
     let f = padded p rate in (
-      ap length c.put.ensures ∙ length-set (items c.loop-i.row) i c.code-or-zero.result ∙ c.loop-i.invariant.0,
+      ap length c.put.ensures ∙ length-set (items c.loop-i.row) i c.code_or_zero.result ∙ c.loop-i.invariant.0,
       c.put.ensures
-          ∙ ap (λ xs. set xs i c.code-or-zero.result) c.loop-i.invariant.1
-          ∙ ap (set (take i f ++ drop i row) i) (c.code-or-zero.ensures.value ∙ sym (padded_at p rate i c.loop-i-test.true))
+          ∙ ap (λ xs. set xs i c.code_or_zero.result) c.loop-i.invariant.1
+          ∙ ap (set (take i f ++ drop i row) i) (c.code_or_zero.ensures.value ∙ sym (padded_at p rate i c.loop-i-test.true))
           ∙ overwrite_more f row i (omega (arith, padded-length p rate c.requires.room)) (omega arith),
     )
 

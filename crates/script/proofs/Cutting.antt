@@ -1,5 +1,5 @@
 -- Where a text is cut into its first word and the rest. Assumes nothing.
-use Rattle.std.proofs.Common.{◌≡◌, ℕ, suc, ◌<◌, ◌≤◌, false, eqb, List, [], ◌∷◌, ◌++◌, length, get_or, Some, None, Option, refl, ap, suc-le-suc, zero-le, arith}
+use Rattle.std.proofs.Common.{◌≡◌, ℕ, suc, ◌≤◌, false, eqb, List, [], ◌∷◌, ◌++◌, length, Some, None, Option, refl, ap, suc-le-suc, zero-le, arith}
 use Rattle.std.proofs.lemmas.Bool.{ne_eqb, cond_both}
 use Rattle.std.specs.Str.Iter.{LacksByte}
 use Rattle.script.specs.Words.{first_word, after_word}

@@ -5,7 +5,7 @@ use Rattle.script.specs.declared.DomainName.{DomainName}
 use Rattle.script.specs.declared.DomainName.TheVariants.{Bytes, BabyBear, KoalaBear, Goldilocks}
 use Rattle.script.specs.declared.PermutationName.{PermutationName}
 use Rattle.script.specs.declared.PermutationName.TheVariants.{Mirror, Ladder}
-use Rattle.script.specs.Words.{first_word, after_word, number_of, both, then, one_of, two_of, optional_of, numbers_of, entry}
+use Rattle.script.specs.Words.{first_word, after_word, number_of, then, one_of, two_of, optional_of, numbers_of, entry}
 
 pub data Said : Type 0 where
   to_blank : Said

@@ -1,5 +1,5 @@
 -- SHA-256 as FIPS 180-4 defines it, on bytes, by its sections. A word is a number below 2 ^ 32, a byte one below 2 ^ 8. Assumes nothing.
-use Rattle.std.specs.Prelude.{ℕ, zero, suc, ◌+◌, ◌-◌, ◌*◌, ◌/◌, ◌%◌, ◌^◌, List, [], ◌∷◌, ◌++◌, map, length, replicate, fold, bit_and, bit_or, bit_xor, slice_index, slice_index_or}
+use Rattle.std.specs.Prelude.{ℕ, zero, suc, ◌+◌, ◌-◌, ◌*◌, ◌/◌, ◌%◌, ◌^◌, List, [], ◌∷◌, ◌++◌, map, length, replicate, fold, bit_and, bit_or, bit_xor, slice_index}
 use Rattle.std.specs.List.{range_with_len}
 use Rattle.std.specs.Simd.{first_chunks}
 use Rattle.sha256.specs.declared.Words.{Words}
@@ -79,7 +79,7 @@ words bs = map (word bs) (range_with_len 0 16)
 
 -- 6.2.2, step 1: the word W_t from those before it, and the first 16 + n words of the schedule
 abbrev pub next : List ℕ → ℕ → ℕ
-next ws t = σ1 (slice_index ws (t - 2)) ⊞ slice_index_or ws (t - 7) 0 ⊞ σ0 (slice_index ws (t - 15)) ⊞ slice_index_or ws (t - 16) 0
+next ws t = σ1 (slice_index ws (t - 2)) ⊞ slice_index ws (t - 7) ⊞ σ0 (slice_index ws (t - 15)) ⊞ slice_index ws (t - 16)
 
 abbrev pub extended : List ℕ → ℕ → List ℕ
 extended ws t = ws ++ next ws t ∷ []

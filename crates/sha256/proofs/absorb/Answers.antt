@@ -1,4 +1,4 @@
-use Rattle.std.proofs.Common.{[], get_or, fold, sym, ap, ◌∙◌, arith}
+use Rattle.std.proofs.Common.{[], get_or, fold, sym, ap, ◌∙◌}
 use Rattle.std.proofs.lemmas.List.{take_all}
 use Rattle.std.proofs.lemmas.List.Sums.{fold_more}
 use Rattle.sha256.specs.Sha256.{compressed}

@@ -5,7 +5,7 @@ use Rattle.sha256.proofs.last_blocks.Goals as goal
 
 pub returns : goal.returns
 returns c =
-    let bits = c.to-be-bytes.ensures ∙ be64_bits c.args.len in
-    last_is c.args.rest.now c.put.new.to c.to-be-bytes.result c.put-2.new.to c.args.end c.args.len
+    let bits = c.to_be_bytes.ensures ∙ be64_bits c.args.len in
+    last_is c.args.rest.now c.put.new.to c.to_be_bytes.result c.put-2.new.to c.args.end c.args.len
     (omega arith) (omega arith) (c.put.ensures.written (omega arith)) bits
     (c.put-2.ensures.written (simp length-set (omega (arith, ap length bits))))

@@ -1,4 +1,4 @@
-use mathlib.Core.Path.{refl}
+use Rattle.std.proofs.Common.{refl}
 use Rattle.keccak_spec.specs.Keccak.{θ}
 use Rattle.keccak_theta.proofs.theta.Goals as goal
 

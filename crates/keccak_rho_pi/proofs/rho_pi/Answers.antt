@@ -1,4 +1,4 @@
-use mathlib.Core.Path.{refl}
+use Rattle.std.proofs.Common.{refl}
 use Rattle.keccak_spec.specs.Keccak.{ρπ, offsets}
 use Rattle.keccak_rho_pi.proofs.rho_pi.Goals as goal
 

@@ -1,4 +1,4 @@
-use mathlib.Core.Path.{refl}
+use Rattle.std.proofs.Common.{refl}
 use Rattle.keccak_spec.specs.Keccak.{χ}
 use Rattle.keccak_chi.proofs.chi.Goals as goal
 

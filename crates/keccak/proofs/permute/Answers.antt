@@ -15,8 +15,8 @@ loop-i-preserved c =
     let a = c.args.a in
     let n = 2 * c.loop-i.i in
     let two : n + 1 + 1 ≡ 2 * (c.loop-i.i + 1) = omega arith in
-    let first = more a _ _ n c.loop-i.invariant (omega arith) c.one-round-s.ensures in
-    more a _ _ (n + 1) first (omega arith) c.one-round-s-in-loop-i.ensures ∙ ap (λ n. fold round a (take n constants)) two
+    let first = more a _ _ n c.loop-i.invariant (omega arith) c.one_round-s.ensures in
+    more a _ _ (n + 1) first (omega arith) c.one_round-s-in-loop-i.ensures ∙ ap (λ n. fold round a (take n constants)) two
 
 pub returns : goal.returns
 unfolding constants keccak_f

@@ -8,12 +8,12 @@ pub returns : goal.returns
 unfolding sha3_256
 returns c =
     let m = c.args.input.now in
-    let whole = c.as-chunks.result.0.now in
-    let last = c.last-block.result in
+    let whole = c.as_chunks.result.0.now in
+    let last = c.last_block.result in
     c.squeeze.ensures
     ∙ ap squeezed
     (c.absorb.ensures ∙ ap (λ s. absorbed s last) c.absorb-s.ensures
     ∙ sym (folded-++ absorbed (replicate 25 0) whole (last ∷ []))
     ∙ ap (fold absorbed (replicate 25 0))
-    (blocks-padded m c.as-chunks.result.1.now last whole c.as-chunks.ensures.back c.as-chunks.ensures.back_len
-    c.last-block.ensures c.as-chunks.ensures.front))
+    (blocks-padded m c.as_chunks.result.1.now last whole c.as_chunks.ensures.back c.as_chunks.ensures.back_len
+    c.last_block.ensures c.as_chunks.ensures.front))

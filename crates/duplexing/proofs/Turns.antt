@@ -1,9 +1,9 @@
 -- The cases of a turn.
-use Rattle.std.proofs.Common.{◌≡◌, ℕ, zero, suc, ◌+◌, ◌<◌, ◌≤◌, Bool, true, false, cond, ◌&&◌, ◌||◌, eqb, ltb, ◌≢◌, List, [], ◌∷◌, ◌++◌, length, get_or, drop, sym, refl, ap, ◌∙◌, arith}
+use Rattle.std.proofs.Common.{◌≡◌, ℕ, ◌+◌, ◌<◌, ◌≤◌, true, false, eqb, ◌≢◌, List, [], ◌∷◌, ◌++◌, length, get_or, drop, sym, ap, ◌∙◌, arith}
 use Rattle.std.proofs.lemmas.List.{at_drop_more, at_drop_all}
-use Rattle.std.proofs.lemmas.Bool.{lt-ltb, le-ltb, ltb-true, eq-eqb, ne_eqb, cond-true, cond-false, or_from, or_left, or_right, and_parts}
+use Rattle.std.proofs.lemmas.Bool.{lt-ltb, le-ltb, eq-eqb, ne_eqb, cond-true, cond-false, or_from, or_left, or_right}
 use Rattle.sponge.specs.Sponge.{SpongeMake, SpongeState, sponge_state}
-use Rattle.sponge.specs.CodesBlock.{all_codes, turned as sponge_turned}
+use Rattle.sponge.specs.CodesBlock.{turned as sponge_turned}
 use Rattle.duplexing.specs.declared.held.DuplexHeld.{DuplexHeld}
 use Rattle.duplexing.specs.Rules.{holding, turned, taken, all_taken, ready}
 

@@ -1,4 +1,4 @@
-use Rattle.std.proofs.Common.{◌≡◌, sym, ap, ◌∙◌}
+use Rattle.std.proofs.Common.{sym, ap, ◌∙◌}
 use Rattle.interface.specs.Meaning.{Reply}
 use Rattle.interface.proofs.Checks.{does_by}
 use Rattle.duplexing.specs.declared.held.DuplexHeld.{DuplexHeld}

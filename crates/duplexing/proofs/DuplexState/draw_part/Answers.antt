@@ -1,4 +1,4 @@
-use Rattle.std.proofs.Common.{◌≡◌, ◌-◌, ◌^◌, ◌<◌, Ok, Err, sym, ap, ◌∙◌}
+use Rattle.std.proofs.Common.{◌-◌, Ok, sym, ap, ◌∙◌}
 use Rattle.interface.specs.Meaning.{reply}
 use Rattle.interface.proofs.Checks.{does_by, did}
 use Rattle.duplexing.specs.Uniform.{draw_below}

@@ -1,4 +1,4 @@
-use Rattle.std.proofs.Common.{◌≡◌, ap, ◌∙◌}
+use Rattle.std.proofs.Common.{ap, ◌∙◌}
 use Rattle.buffer.specs.Items.{items}
 use Rattle.sponge.specs.SpongeHeld as sponge
 use Rattle.duplexing.specs.declared.held.DuplexHeld.{DuplexHeld}

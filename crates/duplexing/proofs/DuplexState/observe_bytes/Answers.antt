@@ -1,4 +1,4 @@
-use Rattle.std.proofs.Common.{◌≡◌, ◌<◌, ◌≤◌, get_or, ap, ◌∙◌, arith, lit<}
+use Rattle.std.proofs.Common.{◌<◌, get_or, ap, ◌∙◌, arith, lit<}
 use Rattle.duplexing.specs.Rules.{taken}
 use Rattle.duplexing.specs.Holds.{held, shape, making}
 use Rattle.duplexing.proofs.Turns.{taken_more, taken_all}

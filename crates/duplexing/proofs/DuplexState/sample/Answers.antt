@@ -1,7 +1,7 @@
-use Rattle.std.proofs.Common.{◌≡◌, sym, ap, ◌∙◌}
-use Rattle.sponge.specs.Sponge.{SpongeState, last_output, without_last}
+use Rattle.std.proofs.Common.{ap, ◌∙◌}
+use Rattle.sponge.specs.Sponge.{SpongeState, last_output}
 use Rattle.duplexing.specs.declared.held.DuplexHeld.{DuplexHeld}
-use Rattle.duplexing.specs.Rules.{sample_of, without_output, holding}
+use Rattle.duplexing.specs.Rules.{sample_of, without_output}
 use Rattle.duplexing.specs.Holds.{shape, making, held}
 use Rattle.duplexing.proofs.Turns.{same_shape, beside}
 use Rattle.duplexing.proofs.DuplexState.sample.Goals as goal

@@ -1,4 +1,4 @@
-use Rattle.std.proofs.Common.{◌≡◌, length, sym, ap, ◌∙◌, arith}
+use Rattle.std.proofs.Common.{length, ap, ◌∙◌, arith}
 use Rattle.std.proofs.lemmas.List.{length_push}
 use Rattle.buffer.specs.Items.{items}
 use Rattle.sponge.specs.SpongeHeld as sponge
@@ -10,7 +10,7 @@ use Rattle.duplexing.proofs.DuplexState.take.Goals as goal
 pub invariant_of-self : goal.invariant_of-self
 invariant_of-self g c =
     let s = c.args.self.now in
-    (omega (arith, c.drop_outputs.ensures.rate, c.rate.ensures.value, s.room, ap length c.push.ensures, length_push (items s.pending) c.args.c), tt)
+    record { room = omega (arith, c.drop_outputs.ensures.rate, c.rate.ensures.value, s.room, ap length c.push.ensures, length_push (items s.pending) c.args.c) }
 
 pub returns-then-len-rate : goal.returns-then-len-rate
 returns-then-len-rate g c =

@@ -1,4 +1,4 @@
-use Rattle.std.proofs.Common.{◌≡◌, true, false, sym, refl, ap, ◌∙◌, lit<}
+use Rattle.std.proofs.Common.{sym, refl, lit<}
 use Rattle.std.proofs.lemmas.Bool.{eq-eqb, ne_eqb, ltb-true, leb-true, and_parts}
 use Rattle.interface.proofs.Checks.{does_by, did}
 use Rattle.duplexing.specs.Holds.{held, shape, making}

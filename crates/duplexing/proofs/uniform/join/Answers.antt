@@ -1,4 +1,4 @@
-use Rattle.std.proofs.Common.{◌≡◌, ℕ, ◌+◌, ◌*◌, ◌^◌, ◌<◌, sym, ap, ◌∙◌, arith}
+use Rattle.std.proofs.Common.{◌≡◌, ℕ, ◌+◌, ◌*◌, ◌^◌, ◌<◌, sym, arith}
 use Rattle.std.proofs.lemmas.Nat.{mul-add-lt, pow-add, pow_below}
 use Rattle.duplexing.proofs.uniform.join.Goals as goal
 

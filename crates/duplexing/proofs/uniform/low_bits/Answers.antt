@@ -1,4 +1,4 @@
-use Rattle.std.proofs.Common.{◌≡◌, ◌-◌, ◌%◌, ◌^◌, ◌<◌, ap, ◌∙◌}
+use Rattle.std.proofs.Common.{◌-◌, ◌^◌, ap, ◌∙◌}
 use lib.Bits.{bit_and}
 use Rattle.std.proofs.lemmas.Nat.{and_mask, mod_below, pow_pos}
 use Rattle.duplexing.proofs.uniform.low_bits.Goals as goal

@@ -1,5 +1,5 @@
 -- The duplex challenger over bytes as a byte transcript: observing a byte is observing its code, and there is always room.
-use Rattle.std.specs.Prelude.{ℕ, ◌+◌, ◌≤◌, true, refl}
+use Rattle.std.specs.Prelude.{ℕ, true, refl}
 use Rattle.std.proofs.Common.{arith, lit≤}
 use Rattle.sponge.specs.Sponge.{SpongeMake}
 use Rattle.transcript.specs.Transcript.{Transcript}

@@ -1,5 +1,5 @@
 -- The cases of a refill, and one block of words more.
-use Rattle.std.proofs.Common.{◌≡◌, ℕ, suc, ◌+◌, ◌<◌, true, false, eqb, List, length, sym, ap, ◌∙◌, add-one, arith}
+use Rattle.std.proofs.Common.{◌≡◌, ℕ, ◌+◌, ◌<◌, List, length, sym, ap, ◌∙◌, add-one, arith}
 use Rattle.std.proofs.lemmas.Bool.{eq-eqb, ne_eqb, cond-true, cond-false}
 use Rattle.sponge.specs.Sponge.{SpongeMake, SpongeState, block_turn, empty_turn}
 use Rattle.packing.specs.Packing.{group}

@@ -1,11 +1,11 @@
 -- One group of scalars, packed from its end. Assumes nothing.
-use Rattle.std.proofs.Common.{◌≡◌, ℕ, zero, suc, ◌+◌, ◌-◌, ◌*◌, ◌^◌, ◌<◌, ◌≤◌, min, List, [], ◌∷◌, ◌++◌, length, get_or, take, drop, sym, refl, ap, ◌∙◌, arith}
-use Rattle.std.proofs.lemmas.List.{length-drop, get_or-drop, get_or-take, drop_more, drop_all, at_drop_more}
+use Rattle.std.proofs.Common.{◌≡◌, ℕ, ◌+◌, ◌-◌, ◌*◌, ◌^◌, ◌<◌, ◌≤◌, min, List, length, get_or, drop, sym, ap, ◌∙◌, arith}
+use Rattle.std.proofs.lemmas.List.{length-drop, get_or-drop, get_or-take, drop_all, at_drop_more}
 use Rattle.permutation.specs.Rows.{Codes}
 use Rattle.bits.specs.CodeBits.{code_bits}
 use Rattle.packing.specs.Powers.{limbs}
 use Rattle.packing.specs.Packing.{pack, group, groups}
-use Rattle.packing.specs.PackingLaws.{pack_cons, pack-none, pack-word, group-length, group_inside, group-codes, limbs-some, limbs-few, groups-few}
+use Rattle.packing.specs.PackingLaws.{pack_cons, pack-none, pack-word, group-length, group_inside, group-codes, limbs-some, limbs-few}
 
 pub times : (a b c d : ℕ) → a ≡ b → c ≡ d → a * c ≡ b * d
 times a b c d p q = ap (λ n. n * c) p ∙ ap (λ n. b * n) q

@@ -1,5 +1,5 @@
 -- Proof only, not to be read to believe a contract: greatest powers, and limbs. Assumes nothing.
-use Rattle.std.specs.Prelude.{◌≡◌, ℕ, zero, suc, ◌*◌, ◌^◌, ◌<◌, ◌≤◌, max, ◌⊎◌, nat_le}
+use Rattle.std.specs.Prelude.{◌≡◌, ℕ, zero, suc, ◌*◌, ◌^◌, ◌<◌, ◌≤◌, max, nat_le}
 use Rattle.std.proofs.Common.{sym, ap, ◌∙◌, inl, inr, pow-suc, mul-zero, mul-suc, arith, lit<, pow-add}
 use Rattle.std.proofs.Math.Nat.{pow-le-pow_left, pow-le-pow_right, pow-zero}
 use Rattle.std.proofs.lemmas.Bool.{cases_lt, cases_eq, cases_Bool, leb-true, leb-false, cond-true, cond-false}

@@ -1,7 +1,6 @@
-use Rattle.std.proofs.Common.{◌≡◌, ◌+◌, ◌-◌, ◌*◌, ◌<◌, ◌≤◌, min, [], ◌∷◌, ◌++◌, length, get_or, take, drop, sym, refl, ap, ◌∙◌, arith, lit<}
-use Rattle.std.proofs.lemmas.List.{take_more, take_all, get_or-drop, length-drop, length-take-le}
+use Rattle.std.proofs.Common.{◌≡◌, ◌+◌, ◌*◌, [], ◌∷◌, ◌++◌, length, get_or, take, drop, sym, ap, ◌∙◌, arith, lit<}
+use Rattle.std.proofs.lemmas.List.{take_more, get_or-drop, length-drop, length-take-le}
 use Rattle.buffer.specs.Items.{items}
-use Rattle.packing.specs.Packing.{group}
 use Rattle.packing.specs.PackingLaws.{group_inside}
 use Rattle.sponge.specs.CodesBlockLaws.{all_codes-codes}
 use Rattle.multi_blocks.proofs.Lists.{take_smaller}

@@ -1,7 +1,7 @@
-use Rattle.std.proofs.Common.{◌≡◌, ℕ, suc, ◌+◌, ◌*◌, ◌/◌, ◌^◌, ◌<◌, ◌≤◌, ◌⊎◌, sym, ap, ◌∙◌, inl, inr, mul-le-mul, pow-suc, add-one, arith, rules}
+use Rattle.std.proofs.Common.{ℕ, suc, ◌+◌, ◌*◌, ◌/◌, ◌^◌, ◌<◌, ◌≤◌, sym, ap, ◌∙◌, inl, inr, mul-le-mul, pow-suc, add-one, arith}
 use native.Mathlib.Nat.{pow-zero, pow-le-pow_right}
 use Rattle.std.proofs.lemmas.Bool.{cases_lt}
-use Rattle.std.proofs.lemmas.Nat.{div_below, le-div, div-add-mod', mul-le}
+use Rattle.std.proofs.lemmas.Nat.{le-div, div-add-mod', mul-le}
 use Rattle.packing.specs.Powers.{GreatestPower}
 use Rattle.packing.specs.PowerLaws.{power_few, greatest_is}
 use Rattle.packing.proofs.numbers.greatest_power.Goals as goal

@@ -1,4 +1,4 @@
-use Rattle.std.proofs.Common.{◌≡◌, ℕ, ◌+◌, ◌-◌, ◌*◌, ◌/◌, ◌^◌, ◌<◌, ◌≤◌, List, [], ◌∷◌, ◌++◌, map, length, get_or, drop, sym, refl, ap, ◌∙◌, arith, lit<}
+use Rattle.std.proofs.Common.{◌≡◌, ℕ, ◌+◌, ◌-◌, ◌/◌, List, [], ◌∷◌, ◌++◌, map, length, sym, refl, ap, ◌∙◌, arith, lit<}
 use Rattle.std.specs.List.{range_with_len}
 use Rattle.std.proofs.lemmas.List.FromFn.{length-map-range_with_len, map-range_with_len_more}
 use Rattle.buffer.specs.Items.{items}
@@ -6,7 +6,7 @@ use Rattle.buffer.proofs.Facts.{items-length}
 use Rattle.bits.specs.CodeBits.{code_bits}
 use Rattle.packing.specs.Packing.{pack, group, groups, packed}
 use Rattle.packing.specs.PackingLaws.{groups-few}
-use Rattle.packing.proofs.Groups.{size-some, size_few, start_inside, group-size, part_word, part_none, part_more}
+use Rattle.packing.proofs.Groups.{size-some, size_few}
 use Rattle.packing.proofs.packing.pack_all.Goals as goal
 
 pub overflow_sub-count : goal.overflow_sub-count

@@ -1,9 +1,9 @@
-use Rattle.std.proofs.Common.{◌≡◌, ℕ, ◌+◌, ◌-◌, ◌*◌, ◌^◌, ◌<◌, ◌≤◌, length, get_or, drop, sym, ap, ◌∙◌, arith, lit<}
+use Rattle.std.proofs.Common.{◌≡◌, ◌-◌, ◌*◌, ◌^◌, length, drop, ap, ◌∙◌, arith, lit<}
 use Rattle.buffer.specs.Items.{items}
 use Rattle.buffer.proofs.Facts.{items-length}
 use Rattle.bits.specs.CodeBits.{code_bits}
 use Rattle.packing.specs.Packing.{pack, group}
-use Rattle.packing.proofs.Groups.{size-some, start_inside, group-size, part_word, part_none, part_more, times}
+use Rattle.packing.proofs.Groups.{start_inside, group-size, part_word, part_none, part_more, times}
 use Rattle.packing.proofs.packing.pack_group.Goals as goal
 
 pub overflow_mul-start : goal.overflow_mul-start

@@ -1,4 +1,4 @@
-use Rattle.std.proofs.Common.{◌≡◌, refl, arith}
+use Rattle.std.proofs.Common.{refl, arith}
 use Rattle.buffer.specs.Items.{items}
 use Rattle.sponge.specs.SpongeHeld as sponge
 use Rattle.multi_blocks.specs.Blocks.{making}

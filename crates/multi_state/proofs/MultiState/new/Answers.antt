@@ -1,6 +1,5 @@
-use Rattle.std.proofs.Common.{◌≡◌, ◌*◌, ◌<◌, ◌≤◌, length, sym, ap, ◌∙◌, arith}
+use Rattle.std.proofs.Common.{◌≡◌, ◌*◌, ◌≤◌, length, sym, ap, ◌∙◌, arith}
 use Rattle.std.proofs.lemmas.Nat.{mul-le}
-use Rattle.buffer.specs.Items.{items}
 use Rattle.buffer.proofs.Facts.{items-length}
 use Rattle.packing.specs.PackingLaws.{limbs-some}
 use Rattle.multi_blocks.proofs.Lists.{product_small}
@@ -23,4 +22,4 @@ invariant_of-result g c =
     let n = c.new-numbers.result in
     let r : n.limbs * s.rate ≡ c.limbs.result * c.args.rate = ap (λ m. n.limbs * m) c.in-Some.ensures.rate_is ∙ ap (λ m. m * c.args.rate) (sym c.limbs.ensures) in
     let some : 1 * 1 ≤ n.limbs * s.rate = mul-le 1 1 n.limbs s.rate (omega (arith, n.sized, limbs-some g.row.SAMPLED g.row.ORDER (omega (arith, n.low)) n.small n.less (omega (arith, g.ORDER.fits)))) s.some in
-    (omega (arith, r, c.if-batch-gt255.false), (omega (arith, some, ap length c.zeros.ensures), tt))
+    record { batch = omega (arith, r, c.if-batch-gt255.false); room = omega (arith, some, ap length c.zeros.ensures) }

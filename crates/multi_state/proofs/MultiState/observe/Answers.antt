@@ -1,6 +1,6 @@
-use Rattle.std.proofs.Common.{◌≡◌, ◌+◌, true, get_or, drop, Ok, Err, sym, ap, ◌∙◌, arith, lit<}
+use Rattle.std.proofs.Common.{◌≡◌, ◌+◌, true, get_or, drop, Ok, sym, ap, ◌∙◌, lit<}
 use Rattle.std.proofs.lemmas.List.{at_drop_more, at_drop_all}
-use Rattle.std.proofs.lemmas.Bool.{cond-true, cond-false}
+use Rattle.std.proofs.lemmas.Bool.{cond-true}
 use Rattle.interface.specs.Meaning.{observe_of}
 use Rattle.interface.proofs.Checks.{does_by}
 use Rattle.sponge.specs.CodesBlock.{all_codes}

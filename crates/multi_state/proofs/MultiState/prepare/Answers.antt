@@ -1,4 +1,4 @@
-use Rattle.std.proofs.Common.{◌≡◌, ap, ◌∙◌, arith}
+use Rattle.std.proofs.Common.{ap, ◌∙◌, arith}
 use Rattle.multi_state.specs.Rules.{squeezed}
 use Rattle.multi_blocks.specs.Blocks.{making}
 use Rattle.multi_state.specs.Holds.{held, shape}

@@ -1,4 +1,4 @@
-use Rattle.std.proofs.Common.{◌≡◌, ap, ◌∙◌}
+use Rattle.std.proofs.Common.{ap, ◌∙◌}
 use Rattle.sponge.specs.Sponge.{last_output}
 use Rattle.multi_state.specs.declared.held.MultiHeld.{MultiHeld}
 use Rattle.multi_state.specs.Rules.{holding, sample_of, without_scalar}

@@ -1,4 +1,4 @@
-use Rattle.std.proofs.Common.{◌≡◌, ◌*◌, ◌<◌, length, ap, ◌∙◌, arith}
+use Rattle.std.proofs.Common.{◌≡◌, ◌*◌, length, ap, ◌∙◌, arith}
 use Rattle.std.proofs.lemmas.List.{length_push}
 use Rattle.buffer.specs.Items.{items}
 use Rattle.sponge.specs.SpongeHeld as sponge
@@ -15,10 +15,11 @@ invariant_of-self g c =
     let s = c.args.self.now in
     let n = s.numbers.limbs in
     let r : c.limbs.result * c.rate.result ≡ n * s.sponge.rate = ap (λ m. m * c.rate.result) c.limbs.ensures ∙ ap (λ m. n * m) (c.rate.ensures.value ∙ c.drop_outputs.ensures.rate) in
-    let q : n * c.drop_outputs.new.self.rate ≡ n * s.sponge.rate = ap (λ m. n * m) c.drop_outputs.ensures.rate in (
-      omega (arith, q, s.batch),
-      (omega (arith, q, r, s.room, c.len.ensures, ap length c.push.ensures, length_push (items s.pending) c.args.c, c.if-len-limbs.true), tt),
-    )
+    let q : n * c.drop_outputs.new.self.rate ≡ n * s.sponge.rate = ap (λ m. n * m) c.drop_outputs.ensures.rate in
+    record {
+      batch = omega (arith, q, s.batch);
+      room = omega (arith, q, r, s.room, c.len.ensures, ap length c.push.ensures, length_push (items s.pending) c.args.c, c.if-len-limbs.true);
+    }
 
 pub returns-then-len-limbs : goal.returns-then-len-limbs
 returns-then-len-limbs g c =

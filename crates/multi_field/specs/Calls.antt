@@ -1,6 +1,6 @@
 -- The calls of a multi-field challenger as values.
-use Rattle.std.specs.Prelude.{◌≡◌, ℕ, refl}
-use Rattle.interface.specs.Meaning.{Reply, reply, observe_of, bits_of}
+use Rattle.std.specs.Prelude.{ℕ, refl}
+use Rattle.interface.specs.Meaning.{reply, observe_of, bits_of}
 use Rattle.interface.specs.Grinding.{check_of, grind_of}
 use Rattle.runs.specs.declared.call.Call.TheVariants.{Observe, ObserveDigest, Sample, SampleBits, UniformBits, CheckWitness, Grind}
 use Rattle.runs.specs.declared.call.Answer.TheVariants.{Code, Absent}

@@ -1,21 +1,17 @@
 //! The hash challenger: bytes are appended to an input, and outputs are digests of it.
 #![tactic(auto)]
 
-ghost use Rattle.std.specs.Prelude.{◌≡◌, ℕ, true, false, List, length, Decides, MatchResult, nat_le};
+ghost use Rattle.std.specs.Prelude.{◌≡◌, ℕ, true, false, List, [], length, Decides, MatchResult, nat_le};
 ghost use Rattle.refusal.specs.declared.Refusal.TheVariants.{InitialState};
 ghost use Rattle.interface.specs.Meaning.{Does, observe_of};
-ghost use Rattle.runs.specs.Runs.{OneMake};
 ghost use Rattle.hash_state.specs.Rules.{fresh, observed, sound, sample_of};
 ghost use Rattle.hash_state.specs.Holds.{held as held_in};
 ghost use Rattle.hash_challenger.specs.Meaning.{hash_transcript};
-ghost use Rattle.hash_challenger.specs.Calls.{rule as rule_of, stands as checks_stand};
 
 use hash_state::{HashHeld, HashState, Prepared};
 use hasher::CryptographicHasher;
 use interface::Holding;
 use refusal::Refusal;
-use runs::call::as_done;
-use runs::{Answer, Call, Challenger};
 use transcript::{
     ByteGrindingChallenger, ByteTranscript, CanFinalizeDigest, counted, find_by_trial,
 };
@@ -81,13 +77,12 @@ impl<H: CryptographicHasher<N>, const N: usize> HashChallenger<H, N> {
         self.state.outputs()
     }
 
-    /// Do both hold the same? Then, with hashers of equal digests, they are of one make.
+    /// Do both hold the same?
     pub fn same_held<I: CryptographicHasher<M>, const M: usize>(
         &self,
         other: &HashChallenger<I, M>,
     ) -> bool
-        ensures value { Decides result (held_in self.now.state ≡ held_in other.now.state) }
-        ensures make { result ≡ true → H.CryptographicHasher.digest ≡ I.CryptographicHasher.digest → OneMake (rule_of H.CryptographicHasher.digest) (rule_of I.CryptographicHasher.digest) (held_in self.now.state) (held_in other.now.state) }
+        ensures { Decides result (held_in self.now.state ≡ held_in other.now.state) }
     {
         self.state.same_held(&other.state)
     }
@@ -101,6 +96,9 @@ impl<H: CryptographicHasher<N>, const N: usize> Holding for HashChallenger<H, N>
     ghost make = { λ s. s.hasher };
 
     ghost held = { λ s. held_in s.state };
+
+    // made with no initial bytes
+    ghost fresh = { λ _. fresh [] };
 }
 
 impl<H: CryptographicHasher<N>, const N: usize> ByteTranscript for HashChallenger<H, N> {
@@ -144,20 +142,5 @@ impl<H: CryptographicHasher<N> + Drop, const N: usize> CanFinalizeDigest for Has
 
     fn finalize(self) -> [u8; N] {
         self.finalize()
-    }
-}
-
-impl<H: CryptographicHasher<N>, const N: usize> Challenger for HashChallenger<H, N> {
-    ghost rule = { λ _. rule_of H.CryptographicHasher.digest };
-
-    ghost stands = { λ _. checks_stand H.CryptographicHasher.digest };
-
-    fn call(&mut self, call: &Call) -> Answer {
-        match call {
-            Call::ObserveBytes(bytes) => as_done(self.observe(bytes)),
-            Call::ObserveDigestBytes(bytes) => as_done(self.observe_digest(bytes)),
-            Call::Sample => Answer::Code(self.sample() as u64),
-            _ => Answer::Absent,
-        }
     }
 }

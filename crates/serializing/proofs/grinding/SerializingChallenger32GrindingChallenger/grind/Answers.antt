@@ -1,4 +1,4 @@
-use Rattle.std.proofs.Common.{◌≡◌, ℕ, ◌+◌, ◌-◌, ◌%◌, ◌^◌, ◌<◌, ◌≤◌, true, false, Ok, sym, refl, ap, ◌∙◌, arith}
+use Rattle.std.proofs.Common.{◌+◌, Ok, sym, refl, ap, ◌∙◌, arith}
 use Rattle.std.proofs.lemmas.Bool.{eq-eqb, ne_eqb, lt-leb}
 use Rattle.interface.specs.Meaning.{reply}
 use Rattle.interface.proofs.Checks.{does_by, grind_bits, grind_none, grind_budget, ground_by}
@@ -6,12 +6,12 @@ use Rattle.serializing.specs.Rules.{means}
 use Rattle.serializing.proofs.Search.{searched, unfound, sought_there}
 use Rattle.serializing.proofs.grinding.SerializingChallenger32GrindingChallenger.grind.Goals as goal
 
-pub returns-then-not-few-bits : goal.returns-then-not-few-bits
-returns-then-not-few-bits g c =
+pub returns-then-not-few_bits : goal.returns-then-not-few_bits
+returns-then-not-few_bits g c =
     let t = c.args.self.now.inner in
     let m = means g.row.ORDER (g.T.ByteTranscript.meaning (g.T.Holding.make t)) in
     let h = g.T.Holding.held t in
-    let e = grind_bits m h c.args.bits c.args.budget (sym c.if-not-few-bits.ensures) in
+    let e = grind_bits m h c.args.bits c.args.budget (sym c.if-not-few_bits.ensures) in
     record { does = does_by e refl; least = ground_by m h c.args.bits c.args.budget e }
 
 pub returns-then-bits-eq0 : goal.returns-then-bits-eq0
@@ -19,7 +19,7 @@ returns-then-bits-eq0 g c =
     let t = c.args.self.now.inner in
     let m = means g.row.ORDER (g.T.ByteTranscript.meaning (g.T.Holding.make t)) in
     let h = g.T.Holding.held t in
-    let e = grind_none m h c.args.bits c.args.budget (sym c.if-not-few-bits.ensures) (eq-eqb _ _ c.if-bits-eq0.true) in
+    let e = grind_none m h c.args.bits c.args.budget (sym c.if-not-few_bits.ensures) (eq-eqb _ _ c.if-bits-eq0.true) in
     record { does = does_by e refl; least = ground_by m h c.args.bits c.args.budget e }
 
 pub returns-then-budget : goal.returns-then-budget
@@ -27,11 +27,11 @@ returns-then-budget g c =
     let t = c.args.self.now.inner in
     let m = means g.row.ORDER (g.T.ByteTranscript.meaning (g.T.Holding.make t)) in
     let h = g.T.Holding.held t in
-    let e = grind_budget m h c.args.bits c.args.budget (sym c.if-not-few-bits.ensures) (ne_eqb _ _ c.if-bits-eq0.false) (lt-leb _ _ c.if-budget.true) in
+    let e = grind_budget m h c.args.bits c.args.budget (sym c.if-not-few_bits.ensures) (ne_eqb _ _ c.if-bits-eq0.false) (lt-leb _ _ c.if-budget.true) in
     record { does = does_by e refl; least = ground_by m h c.args.bits c.args.budget e }
 
-pub returns-in-default : goal.returns-in-default
-returns-in-default g c =
+pub returns-in_default : goal.returns-in_default
+returns-in_default g c =
     let M = g.T.ByteTranscript.meaning in
     let t = c.args.self.now.inner in
     let k = g.T.Holding.make t in
@@ -40,8 +40,8 @@ returns-in-default g c =
     let n = c.args.budget in
     let dropped = c.squeeze.ensures in
     let there = sought_there M k (g.T.Holding.make c.squeeze.new.transcript) h (g.T.Holding.held c.squeeze.new.transcript) b n c.power.result dropped.kept dropped.left c.power.ensures in
-    let e = unfound g.row.ORDER (M k) h b (sym c.if-not-few-bits.ensures) (omega arith) dropped.roomy n c.if-budget.false c.args.self.now.code.small
-    (sym there ∙ sym c.find-witness.ensures ∙ c.in-default.is) in
+    let e = unfound g.row.ORDER (M k) h b (sym c.if-not-few_bits.ensures) (omega arith) dropped.roomy n c.if-budget.false c.args.self.now.code.small
+    (sym there ∙ sym c.find_witness.ensures ∙ c.in_default.is) in
     record { does = does_by e refl; least = ground_by (means g.row.ORDER (M k)) h b n e }
 
 pub returns : goal.returns
@@ -55,7 +55,7 @@ returns g c =
     let dropped = c.squeeze.ensures in
     let checked = c.check.ensures.does in
     let there = sought_there M k (g.T.Holding.make c.squeeze.new.transcript) h (g.T.Holding.held c.squeeze.new.transcript) b n c.power.result dropped.kept dropped.left c.power.ensures in
-    let is = searched g.row.ORDER (M k) h b (sym c.if-not-few-bits.ensures) (omega arith) dropped.roomy n c.if-budget.false c.args.self.now.code.small
-    c.in-Some.witness (sym there ∙ sym c.find-witness.ensures ∙ c.in-Some.is) in
+    let is = searched g.row.ORDER (M k) h b (sym c.if-not-few_bits.ensures) (omega arith) dropped.roomy n c.if-budget.false c.args.self.now.code.small
+    c.in-Some.witness (sym there ∙ sym c.find_witness.ensures ∙ c.in-Some.is) in
     let e = is.1 ∙ ap (reply (Ok (c.in-Some.witness, c.in-Some.witness + 1))) (sym checked.state) in
     record { does = does_by e checked.same_make; least = ground_by (means g.row.ORDER (M k)) h b n e }

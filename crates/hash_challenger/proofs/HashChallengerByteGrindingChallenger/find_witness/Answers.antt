@@ -1,4 +1,4 @@
-use Rattle.std.proofs.Common.{◌≡◌, ◌<◌, ◌≤◌, sym, ap, ◌∙◌, arith, below_more}
+use Rattle.std.proofs.Common.{◌<◌, sym, ◌∙◌, arith, below_more}
 use Rattle.transcript.specs.Transcript.{candidates_of}
 use Rattle.transcript.proofs.Sought.{sought-some, sought-none}
 use Rattle.hash_state.specs.Holds.{held}

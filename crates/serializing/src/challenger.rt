@@ -25,6 +25,8 @@ impl<D: Domain<ORDER>, T: ByteTranscript, const ORDER: u64> Holding
     ghost make = { λ s. T.Holding.make s.inner };
 
     ghost held = { λ s. T.Holding.held s.inner };
+
+    ghost fresh = { T.Holding.fresh };
 }
 
 impl<D: Domain<ORDER>, T: ByteTranscript, const ORDER: u64> CanObserve

@@ -1,5 +1,5 @@
 -- Proof only: what a hash challenger holds obeys the laws of the room.
-use Rattle.std.specs.Prelude.{◌≡◌, ℕ, ◌+◌, ◌≤◌, true, ◌||◌, List, [], ◌∷◌, length, ◌==◌, nat_le, refl}
+use Rattle.std.specs.Prelude.{◌≡◌, ℕ, ◌≤◌, true, List, [], ◌∷◌, length, ◌==◌, nat_le, refl}
 use Rattle.std.proofs.Common.{⊎_elim, arith, length-append}
 use Rattle.std.proofs.lemmas.Bool.{cond_both, or_right, or_cases, le-leb, leb-true, both_ways}
 use Rattle.hasher.specs.Hashing.{Hashing}

@@ -1,5 +1,5 @@
 -- The rules of the serializing challenger, over any byte transcript's meaning and any order.
-use Rattle.std.specs.Prelude.{◌≡◌, ℕ, ◌-◌, ◌%◌, ◌^◌, ◌<◌, Bool, true, false, cond, ◌⊎◌, List, Ok, Err, Result, nat_lt}
+use Rattle.std.specs.Prelude.{◌≡◌, ℕ, ◌-◌, ◌%◌, ◌^◌, true, false, cond, ◌⊎◌, List, Err, Result, nat_lt}
 use Rattle.std.proofs.Common.{mod-lt, pow_pos}
 use Rattle.refusal.specs.declared.Refusal.{Refusal}
 use Rattle.refusal.specs.declared.Refusal.TheVariants.{Bits, DrawLimit, NotCode}

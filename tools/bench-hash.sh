@@ -4,7 +4,7 @@
 set -eu
 cd "$(dirname "$0")/.."
 count=${1:-100000}
-ours=target/bin/hash_bench
+ours=crates/hash_bench/out/hash_bench
 dir=$(mktemp -d)
 trap 'rm -rf "$dir"' EXIT
 ${CC:-clang} -O3 -o "$dir/c" tools/bench-hash.c -lcrypto

@@ -29,7 +29,6 @@ use std::marker::PhantomData;
 mod bytes;
 
 pub use bytes::ByteDomain;
-use transcript::CanFinalizeDigest;
 
 /// The duplex challenger over a domain and a permutation of its rows.
 #[derive(Clone, Copy)]

@@ -1,7 +1,10 @@
 -- Codes in lists, and what a buffer holds. Assumes nothing.
-use Rattle.std.proofs.Common.{◌≡◌, ℕ, zero, suc, ◌-◌, ◌<◌, List, [], ◌∷◌, ◌++◌, length, get_or, take, set, replicate, refl, ap, ◌∙◌, inl, inr, arith, length-set}
+use Rattle.std.proofs.Common.{◌≡◌, ℕ, zero, suc, ◌+◌, ◌-◌, ◌<◌, ◌≤◌, List, [], ◌∷◌, ◌++◌, length, get_or, take, drop, set, replicate, sym, refl, ap, ◌∙◌, inl, inr, arith, length-set}
 use lib.ListN.{length-replicate}
-use Rattle.std.proofs.lemmas.List.{length-take-le, get_or-take, get_or-set_same, get_or-set_other, get_or_append_left, get_or_push, length_push, get_or-replicate, length-take, take_at, length-append}
+use borrow.Rule.Slice.PartMut.{mid_of, put_mid, mid_len}
+use Rattle.std.proofs.Math.Seq.{take-append-add}
+use Rattle.std.proofs.lemmas.List.{length-take-le, get_or-take, get_or-set_same, get_or-set_other, get_or_append_left, get_or-append_right, get_or-replicate, get_or-drop, length-take, length-drop, drop-drop, drop-take, take_at, length-append}
+use Rattle.std.proofs.lemmas.Slice.{drop-append-drop}
 use Rattle.std.proofs.lemmas.Bool.{cases_eq, cases_lt}
 use Rattle.permutation.specs.Rows.{Codes, Row, Lawful}
 use Rattle.buffer.specs.declared.Buffer.{Buffer}
@@ -24,20 +27,32 @@ codes-set order xs i c h code k lt =
       | inr ne ↦ rw (get_or-set_other xs i k c 0 ne) (h k inside)
     ]
 
-pub codes_push : (order : ℕ) (xs : List ℕ) (c : ℕ) → Codes order xs → c < order → Codes order (xs ++ (c ∷ []))
-codes_push order xs c h hc k lt =
+pub codes-append : (order : ℕ) (xs ys : List ℕ) → Codes order xs → Codes order ys → Codes order (xs ++ ys)
+codes-append order xs ys hx hy k lt =
     elim (cases_lt k (length xs)) [
-      | inl l ↦ rw (get_or_append_left xs (c ∷ []) 0 k l) (h k l)
-      | inr g ↦ (let e : length xs ≡ k = omega (arith, length_push xs c) in rw (get_or_push xs c 0 k e) hc)
+      | inl l ↦ rw (get_or_append_left xs ys 0 k l) (hx k l)
+      | inr g ↦ rw (get_or-append_right xs ys (length xs) k 0 refl g) (hy (k - length xs) (omega (arith, length-append xs ys)))
     ]
+
+codes-one : (order c : ℕ) → c < order → Codes order (c ∷ [])
+codes-one order c h zero lt = h
+codes-one order c h (suc k) lt = absurd (omega arith)
+
+pub codes_push : (order : ℕ) (xs : List ℕ) (c : ℕ) → Codes order xs → c < order → Codes order (xs ++ (c ∷ []))
+codes_push order xs c h hc = codes-append order xs (c ∷ []) h (codes-one order c hc)
+
+pub codes-drop : (order n : ℕ) (xs : List ℕ) → Codes order xs → Codes order (drop n xs)
+codes-drop order n xs h k lt = rw (get_or-drop n xs k 0) (h (n + k) (omega (arith, length-drop n xs)))
 
 pub codes-take : (order n : ℕ) (xs : List ℕ) → Codes order xs → Codes order (take n xs)
 codes-take order n xs h k lt =
     let l : k < n = omega (arith, length-take n xs) in
     rw (get_or-take n xs k 0 l) (h k (omega (arith, length-take n xs)))
 
-pub codes-zeros : (order n : ℕ) → 0 < order → Codes order (replicate n 0)
-codes-zeros order n p k lt = rw (get_or-replicate {A = ℕ} n k 0 0 (omega (arith, length-replicate {A = ℕ} n 0))) p
+pub codes-zeros : (order n : ℕ) → (0 < n → 0 < order) → Codes order (replicate n 0)
+codes-zeros order n p k lt =
+    let l : k < n = omega (arith, length-replicate {A = ℕ} n 0) in
+    rw (get_or-replicate {A = ℕ} n k 0 0 l) (p (omega arith))
 
 -- after the first cells of a buffer were permuted: `new` is what they hold now, `rest` the others
 module _ {order n : ℕ} (b : Buffer order n) (image : List ℕ → List ℕ) (lawful : Lawful order image) (row : Row order (items b))
@@ -53,3 +68,46 @@ module _ {order n : ℕ} (b : Buffer order n) (image : List ℕ → List ℕ) (l
 
   pub permuted_codes : (rest : List ℕ) → Codes order (take b.count (new ++ rest))
   permuted_codes rest = rw (permuted_front rest) (rw e (lawful.keeps_codes (items b) row))
+
+-- after these words were written into the first cells of a buffer, and zeros after them up to `end`
+module _ {order n : ℕ} (b : Buffer order n) (words : List ℕ) (end : ℕ) (few : length words ≤ end) (inside : end ≤ b.count) where
+  abbrev pub zeros : List ℕ
+  zeros = replicate (end - length words) 0
+
+  zeros-length : length zeros ≡ end - length words
+  zeros-length = length-replicate {A = ℕ} (end - length words) 0
+
+  -- what all cells are, when `copied` is what the first m hold and `filled` what those up to `end` hold
+  pub overwritten_cells : (m : ℕ) (copied filled : List ℕ) → m ≡ length words → copied ≡ words
+      → filled ≡ replicate (length (mid_of m (end - m) (copied ++ drop m b.cells))) 0
+      → put_mid m (end - m) (copied ++ drop m b.cells) filled ≡ words ++ (zeros ++ drop end b.cells)
+  overwritten_cells m copied filled h c f =
+      let rest = drop (length words) b.cells in
+      let e : length words + (end - length words) ≡ end = omega arith in
+      let long : end ≤ length (words ++ rest) = omega (arith, length-append words rest, length-drop (length words) b.cells, b.sized, b.within) in
+      let past : drop (end - length words) (drop (length words) (words ++ rest)) ≡ drop end b.cells =
+      drop-drop (end - length words) (length words) (words ++ rest) ∙ ap (λ k. drop k (words ++ rest)) e ∙ drop-append-drop (length words) b.cells words end few refl in
+      rw (f, c, h) (
+      ap (λ k. take (length words) (words ++ rest) ++ (replicate k 0 ++ drop (end - length words) (drop (length words) (words ++ rest)))) (mid_len (length words) end (words ++ rest) long)
+      ∙ ap (λ xs. xs ++ (zeros ++ drop (end - length words) (drop (length words) (words ++ rest)))) (take_at words rest (length words) refl)
+      ∙ ap (λ xs. words ++ (zeros ++ xs)) past
+      )
+
+  -- and the cells that count
+  pub overwritten_items : take b.count (words ++ (zeros ++ drop end b.cells)) ≡ words ++ (zeros ++ drop end (items b))
+  overwritten_items =
+      let r = b.count - end in
+      let whole : b.count ≡ length words + (length zeros + r) = omega (arith, zeros-length) in
+      let split : b.count ≡ end + r = omega arith in
+      ap (λ k. take k (words ++ (zeros ++ drop end b.cells))) whole
+      ∙ take-append-add words (zeros ++ drop end b.cells) (length zeros + r)
+      ∙ ap (λ xs. words ++ xs) (take-append-add zeros (drop end b.cells) r ∙ ap (λ xs. zeros ++ xs) (sym (ap (λ k. drop end (take k b.cells)) split ∙ drop-take end r b.cells)))
+
+  pub overwritten-length : length (words ++ (zeros ++ drop end b.cells)) ≡ n
+  overwritten-length = omega (arith, length-append words (zeros ++ drop end b.cells), length-append zeros (drop end b.cells), length-drop end b.cells, zeros-length, b.sized, b.within)
+
+  pub overwritten-codes : Codes order words → Codes order (words ++ (zeros ++ drop end (items b)))
+  overwritten-codes h =
+      let positive : 0 < end - length words → 0 < order = λ l. (let first = b.codes 0 (omega (arith, items-length b)) in omega (arith, first)) in
+      codes-append order words (zeros ++ drop end (items b)) h
+      (codes-append order zeros (drop end (items b)) (codes-zeros order (end - length words) positive) (codes-drop order end (items b) b.codes))

@@ -1,5 +1,5 @@
-ghost use Rattle.std.specs.Prelude.{◌≡◌, ◌-◌, ◌<◌, ◌≤◌, [], ◌∷◌, ◌++◌, length, take, replicate, slice_index, slice_set};
-ghost use Rattle.permutation.specs.Rows.{Row};
+ghost use Rattle.std.specs.Prelude.{◌≡◌, ◌-◌, ◌<◌, ◌≤◌, [], ◌∷◌, ◌++◌, length, take, drop, replicate, slice_index, slice_set};
+ghost use Rattle.permutation.specs.Rows.{Codes, Row};
 ghost use Rattle.buffer.specs.Items.{items};
 
 use crate::Buffer;
@@ -17,6 +17,21 @@ impl<const ORDER: u64, const N: usize> Buffer<ORDER, N> {
         Buffer {
             cells: [0; N],
             count,
+        }
+    }
+
+    /// The codes, in a buffer.
+    pub fn from_slice(codes: &[u64]) -> Self
+        requires few { length codes.now ≤ N }
+        requires small { N ≤ 1024 }
+        requires codes { Codes ORDER codes.now }
+        ensures { items result ≡ codes.now }
+    {
+        let mut cells = [0; N];
+        cells[..codes.len()].copy_from_slice(codes);
+        Buffer {
+            cells,
+            count: codes.len(),
         }
     }
 
@@ -43,6 +58,18 @@ impl<const ORDER: u64, const N: usize> Buffer<ORDER, N> {
         ensures { items self.new ≡ slice_set (items self.old) i c }
     {
         self.cells[i] = c;
+    }
+
+    /// Writes the codes of `words` into the first cells, and zeroes those after them up to `end`.
+    pub fn overwrite(&mut self, words: &Self, end: usize)
+        requires room { length (items words.now) ≤ end }
+        requires inside { end ≤ length (items self.old) }
+        ensures { items self.new ≡ items words.now ++ (replicate (end - length (items words.now)) 0 ++ drop end (items self.old)) }
+    {
+        let n = words.count;
+        let cells = &mut self.cells[..];
+        cells[..n].copy_from_slice(words.as_slice());
+        cells[n..end].fill(0);
     }
 
     /// Appends the code `c`.
@@ -77,12 +104,9 @@ impl<const ORDER: u64, const N: usize> Buffer<ORDER, N> {
     pub fn as_slice(&self) -> &[u64]
         ensures { result.now ≡ items self.now }
     {
-        let all = &self.cells[..];
-        &all[..self.count]
+        &self.cells[..self.count]
     }
-}
 
-impl<const ORDER: u64> Buffer<ORDER, 64> {
     /// Permutes the codes, of which there are at least two.
     pub fn permute<D: Domain<ORDER>, P: CryptographicPermutation<D, ORDER>>(
         &mut self,
@@ -91,6 +115,6 @@ impl<const ORDER: u64> Buffer<ORDER, 64> {
         requires row { Row ORDER (items self.old) }
         ensures { items self.new ≡ P.CryptographicPermutation.image permutation.now (items self.old) }
     {
-        permutation.permute(&mut self.cells[0..self.count]);
+        permutation.permute(&mut self.cells[..self.count]);
     }
 }

@@ -9,7 +9,7 @@ invariant_of-result g c = record {
   small = omega arith;
   sized = length-replicate {A = ℕ} g.row.N 0;
   within = omega arith;
-  codes = rw (take-replicate {X = ℕ} c.args.count g.row.N 0 (omega arith)) (codes-zeros g.row.ORDER c.args.count (omega arith));
+  codes = rw (take-replicate {X = ℕ} c.args.count g.row.N 0 (omega arith)) (codes-zeros g.row.ORDER c.args.count (λ _. omega arith));
 }
 
 pub returns : goal.returns

@@ -1,7 +1,7 @@
-use Rattle.std.proofs.Common.{◌≡◌, ◌-◌, length, take, ap, ◌∙◌, arith, length-drop}
+use Rattle.std.proofs.Common.{◌≡◌, ◌-◌, length, ◌∙◌, length-drop}
 use borrow.Rule.Slice.PartMut.{post_of}
 use Rattle.buffer.proofs.Facts.{permuted_front, permuted_length, permuted_codes}
-use Rattle.buffer.proofs.methods.«Buffer+ORDER+64».permute.Goals as goal
+use Rattle.buffer.proofs.Buffer.permute.Goals as goal
 
 pub invariant_of-self : goal.invariant_of-self
 invariant_of-self g c =
@@ -9,10 +9,9 @@ invariant_of-self g c =
     let p = c.args.permutation.now in
     let image = g.P.CryptographicPermutation.image p in
     let lawful = g.P.CryptographicPermutation.lawful p in
-    let z : b.count - 0 ≡ b.count = omega arith in
-    let e = c.permute.ensures ∙ ap (λ n. image (take n b.cells)) z in
-    let rest = post_of 0 (b.count - 0) b.cells in
-    let l : length rest ≡ length b.cells - b.count = rw z (length-drop b.count b.cells) in
+    let e = c.permute.ensures in
+    let rest = post_of 0 b.count b.cells in
+    let l : length rest ≡ length b.cells - b.count = length-drop b.count b.cells in
     record {
       small = b.small;
       sized = permuted_length b image lawful c.requires.row c.permute.new.row e rest l;
@@ -25,6 +24,5 @@ returns g c =
     let b = c.args.self.now in
     let p = c.args.permutation.now in
     let image = g.P.CryptographicPermutation.image p in
-    let z : b.count - 0 ≡ b.count = omega arith in
-    let e = c.permute.ensures ∙ ap (λ n. image (take n b.cells)) z in
-    permuted_front b image (g.P.CryptographicPermutation.lawful p) c.requires.row c.permute.new.row e (post_of 0 (b.count - 0) b.cells) ∙ e
+    let e = c.permute.ensures in
+    permuted_front b image (g.P.CryptographicPermutation.lawful p) c.requires.row c.permute.new.row e (post_of 0 b.count b.cells) ∙ e

@@ -100,6 +100,17 @@ impl<const ORDER: u64, const N: usize> Buffer<ORDER, N> {
         self.count = 0;
     }
 
+    /// The first `n` codes, copied.
+    pub fn front(&self, n: usize) -> Self
+        requires inside { n ≤ length (items self.now) }
+        ensures { items result ≡ take n (items self.now) }
+    {
+        Buffer {
+            cells: self.cells,
+            count: n,
+        }
+    }
+
     /// The codes, in order.
     pub fn as_slice(&self) -> &[u64]
         ensures { result.now ≡ items self.now }

@@ -1,5 +1,5 @@
 -- What absorbing a block makes of a row. Assumes nothing.
-use Rattle.std.proofs.Common.{◌≡◌, ℕ, zero, suc, ◌+◌, ◌-◌, ◌<◌, ◌≤◌, List, [], ◌∷◌, ◌++◌, length, get_or, take, drop, set, replicate, sym, refl, ap, ◌∙◌, inl, inr, add-one, arith}
+use Rattle.std.proofs.Common.{◌≡◌, ℕ, suc, ◌+◌, ◌-◌, ◌<◌, ◌≤◌, List, ◌∷◌, ◌++◌, length, get_or, take, drop, set, replicate, sym, refl, ap, ◌∙◌, inl, inr, append_assoc, arith}
 use lib.ListN.{length-replicate}
 use Rattle.std.proofs.lemmas.List.{length-append, length-drop, get_or_at, take_at, set_at, drop_more, get_or_append_left, get_or-append_right, get_or-replicate, get_or_past, get_or-drop}
 use Rattle.std.proofs.lemmas.Bool.{cases_lt, cases_eq}
@@ -22,30 +22,20 @@ padded_at p rate i h =
       | inr k ↦ get_or-append_right p _ (length p) i 0 refl k ∙ get_or-replicate {A = ℕ} (rate - length p) (i - length p) 0 0 (omega arith) ∙ sym (get_or_past p i 0 k)
     ]
 
-overwrite_suc : (f r : List ℕ) (i : ℕ) → i < length f → i < length r → set (take i f ++ drop i r) i (get_or f i 0) ≡ take (suc i) f ++ drop (suc i) r
-overwrite_suc [] r i h k = absurd (omega arith)
-overwrite_suc (x ∷ f) [] i h k = absurd (omega arith)
-overwrite_suc (x ∷ f) (y ∷ r) zero h k = refl
-overwrite_suc (x ∷ f) (y ∷ r) (suc i) h k = ap (λ xs. x ∷ xs) (overwrite_suc f r i (omega arith) (omega arith))
-
--- one cell more of f over r
-pub overwrite_more : (f r : List ℕ) (i : ℕ) → i < length f → i < length r → set (take i f ++ drop i r) i (get_or f i 0) ≡ take (i + 1) f ++ drop (i + 1) r
-overwrite_more f r i h k = overwrite_suc f r i h k ∙ ap (λ n. take n f ++ drop n r) (sym (add-one i))
-
 -- the cell after f, written
-pub tag_cell : (add : ℕ → ℕ → ℕ) (rate : ℕ) (row f : List ℕ) (tag cell tagged : ℕ) → length f ≡ rate → rate < length row
-    → cell ≡ get_or (f ++ drop rate row) rate 0 → tagged ≡ add cell tag
-    → set (f ++ drop rate row) rate tagged ≡ f ++ (add (get_or row rate 0) tag ∷ drop (rate + 1) row)
-tag_cell add rate row f tag cell tagged l inside c t =
-    let split = drop_more row rate 0 inside in
-    let there : cell ≡ get_or row rate 0 = c ∙ ap (λ xs. get_or (f ++ xs) rate 0) split ∙ get_or_at f (get_or row rate 0) (drop (rate + 1) row) 0 rate l in
-    ap (λ xs. set (f ++ xs) rate tagged) split ∙ set_at f (get_or row rate 0) (drop (rate + 1) row) tagged rate l
-    ∙ ap (λ y. f ++ (y ∷ drop (rate + 1) row)) (t ∙ ap (λ y. add y tag) there)
+tag_cell : (rate : ℕ) (row f : List ℕ) (tagged : ℕ) → length f ≡ rate → rate < length row → set (f ++ drop rate row) rate tagged ≡ f ++ (tagged ∷ drop (rate + 1) row)
+tag_cell rate row f tagged l inside =
+    ap (λ xs. set (f ++ xs) rate tagged) (drop_more row rate 0 inside) ∙ set_at f (get_or row rate 0) (drop (rate + 1) row) tagged rate l
 
-pub absorbed_is : {order : ℕ} (k : SpongeMake order) (row words : List ℕ) (tag : ℕ)
-    → padded words k.rate ++ (k.arithmetic.add (get_or row k.rate 0) tag ∷ drop (k.rate + 1) row) ≡ absorbed k row words tag
+-- the row, after the words were written over the first cells, zeros after them, and the tagged cell at RATE
+pub absorbed_is : {order : ℕ} (k : SpongeMake order) (row words : List ℕ) (tag tagged : ℕ) → length words ≤ k.rate → k.rate < length row
+    → tagged ≡ k.arithmetic.add (get_or row k.rate 0) tag
+    → set (words ++ (replicate (k.rate - length words) 0 ++ drop k.rate row)) k.rate tagged ≡ absorbed k row words tag
 unfolding absorbed
-absorbed_is k row words tag = refl
+absorbed_is k row words tag tagged few inside t =
+    let rate = k.rate in
+    rw t (ap (λ xs. set xs rate (k.arithmetic.add (get_or row rate 0) tag)) (sym (append_assoc words (replicate (rate - length words) 0) (drop rate row)))
+    ∙ tag_cell rate row (padded words rate) _ (padded-length words rate few) inside)
 
 module _ {order : ℕ} (k : SpongeMake order) (row : List ℕ) (is_row : Row order row) (wide : k.rate < length row) (p : List ℕ) (tag : ℕ) where
   pub absorbed-length : length p ≤ k.rate → length (absorbed k row p tag) ≡ length row

@@ -1,12 +1,13 @@
 -- Separation holds under every lawful permutation. Assumes nothing.
 use Rattle.std.proofs.Common.{◌≡◌, ℕ, ◌<◌, ◌≤◌, true, leb, ◌≢◌, List, [], ◌∷◌, length, get_or, take, sym, refl, ap, ◌∙◌, arith}
 use Rattle.std.proofs.lemmas.Bool.{and_from, le-leb}
-use Rattle.domain.specs.Arithmetic.{Arithmetic}
+use Rattle.domain.specs.declared.Domain.{Ghosts as DomainGhosts}
+use Rattle.permutation.specs.declared.CryptographicPermutation.{Ghosts as PermutationGhosts}
 use Rattle.permutation.specs.Rows.{Row, Lawful}
 use Rattle.permutation.specs.AddCancel.{add_cancel}
 use Rattle.sponge.specs.declared.Sponge.{Sponge}
 use Rattle.sponge.specs.Sponge.{SpongeMake, SpongeState, padded, absorbed}
-use Rattle.sponge.specs.SpongeHeld.{held, making, SameMake}
+use Rattle.sponge.specs.SpongeHeld.{held, making}
 use Rattle.sponge.specs.Separation.{BlockKind, row_after, is_turn, Separation}
 use Rattle.sponge.specs.CodesBlock.{codes_turn, turned}
 use Rattle.sponge.specs.CodesKind.{codes_kind}
@@ -70,15 +71,15 @@ turned-row k small row [] = refl
 turned-row k small row (x ∷ xs) = refl
 
 -- two sponges of one make with equal rows, after turns with unlike codes: `left` and `right` are what they hold
-module _ {order : ℕ} (d : Arithmetic order) (image : List ℕ → List ℕ) (lawful : Lawful order image) (s t : Sponge order) (left right : SpongeState) (xs ys : List ℕ) where
+module _ {D P : Type 0} {order : ℕ} {d : DomainGhosts D order} {p : PermutationGhosts P D order} (s t : Sponge D P order d p) (left right : SpongeState) (xs ys : List ℕ) where
   pub both-apart : codes_turn order s.rate xs ≡ true → codes_turn order t.rate ys ≡ true
-      → left ≡ turned (making d image s) (held s).row xs → right ≡ turned (making d image t) (held t).row ys
-      → SameMake s t → (held s).row ≡ (held t).row → xs ≢ ys → left.row ≢ right.row
-  both-apart hx hy l r make rows ne e =
-      let k = making d image s in
+      → left ≡ turned (making s) (held s).row xs → right ≡ turned (making t) (held t).row ys
+      → Lawful order (making s).image → making s ≡ making t → (held s).row ≡ (held t).row → xs ≢ ys → left.row ≢ right.row
+  both-apart hx hy l r lawful make rows ne e =
+      let k = making s in
       let small : s.rate ≤ 255 = omega (arith, rate_small s) in
-      let other : turned (making d image t) (held t).row ys ≡ turned k (held s).row ys = simp (make.width, make.rate, rows) in
-      let hy' : codes_turn order s.rate ys ≡ true = rw make.rate hy in
+      let other : turned (making t) (held t).row ys ≡ turned k (held s).row ys = simp (make, rows) in
+      let hy' : codes_turn order s.rate ys ≡ true = rw (ap (λ (m : SpongeMake order). m.rate) make) hy in
       separation k lawful (codes_kind order s.rate small) (held s).row (sponge_row s) (rate_inside s) xs ys
       (codes-is_turn order s.rate small xs hx) (codes-is_turn order s.rate small ys hy') ne
       (sym (turned-row k small (held s).row xs) ∙ ap (λ (u : SpongeState). u.row) (sym l) ∙ e ∙ ap (λ (u : SpongeState). u.row) (r ∙ other) ∙ turned-row k small (held s).row ys)

@@ -1,11 +1,7 @@
 -- Turns and blocks of codes: at most RATE of them. Assumes nothing.
-use Rattle.std.specs.Prelude.{ℕ, Bool, true, ◌&&◌, List, [], ◌∷◌, length, nat_le, nat_lt}
+use Rattle.std.specs.Prelude.{ℕ, Bool, ◌&&◌, List, [], ◌∷◌, length, nat_le}
+use Rattle.domain.specs.Codes.{all_codes}
 use Rattle.sponge.specs.Sponge.{SpongeMake, SpongeState, block_turn, empty_turn}
-
--- is every number a code?
-abbrev pub all_codes : ℕ → List ℕ → Bool
-all_codes order [] = true
-all_codes order (x ∷ xs) = nat_lt x order && all_codes order xs
 
 -- are these at most RATE numbers, all codes?
 abbrev pub codes_turn : ℕ → ℕ → List ℕ → Bool

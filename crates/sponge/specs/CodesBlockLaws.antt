@@ -3,9 +3,10 @@ use Rattle.std.specs.Prelude.{◌≡◌, ℕ, zero, suc, ◌≤◌, true, List, 
 use Rattle.std.proofs.Common.{sym, ap, ◌∙◌, arith}
 use Rattle.std.proofs.lemmas.List.{take_at}
 use Rattle.std.proofs.lemmas.Bool.{and_parts, ltb-true, leb-true}
+use Rattle.domain.specs.Codes.{all_codes}
 use Rattle.permutation.specs.Rows.{Codes}
 use Rattle.sponge.specs.Sponge.{padded}
-use Rattle.sponge.specs.CodesBlock.{all_codes, codes_turn, codes_block}
+use Rattle.sponge.specs.CodesBlock.{codes_turn, codes_block}
 
 pub all_codes-codes : (order : ℕ) (xs : List ℕ) → all_codes order xs ≡ true → Codes order xs
 all_codes-codes order [] h k lt = absurd (omega arith)

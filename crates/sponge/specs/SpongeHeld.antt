@@ -1,33 +1,34 @@
 -- What a sponge in memory stands for. Assumes nothing.
-use Rattle.std.specs.Prelude.{◌≡◌, ℕ, Bool, true, false, ◌&&◌, List, [], replicate, Some, None, Option, nat_le, nat_lt}
-use Rattle.domain.specs.Arithmetic.{Arithmetic}
+use Rattle.std.specs.Prelude.{◌≡◌, ℕ, Bool, true, ◌&&◌, [], replicate, nat_le, nat_lt}
+use Rattle.domain.specs.declared.Domain.{Ghosts as DomainGhosts}
+use Rattle.permutation.specs.declared.CryptographicPermutation.{Ghosts as PermutationGhosts}
 use Rattle.buffer.specs.Items.{items}
 use Rattle.sponge.specs.Sponge.{SpongeMake, SpongeState, sponge_state}
 use Rattle.sponge.specs.declared.Sponge.{Sponge}
-
-abbrev pub held : {order : ℕ} → Sponge order → SpongeState
-held s = sponge_state (items s.row) (items s.outputs)
-
--- the arithmetic, the image, and the sponge's width and rate
-abbrev pub making : {order : ℕ} → Arithmetic order → (List ℕ → List ℕ) → Sponge order → SpongeMake order
-making d image s = record { arithmetic = d; image = image; width = s.width; rate = s.rate }
 
 -- is the rate at least 1 and below the width, and the width at most 64?
 abbrev pub shaped : ℕ → ℕ → Bool
 shaped width rate = nat_le 1 rate && (nat_lt rate width && nat_le width 64)
 
--- a new sponge of this width and rate: zeros, and no output
-pub record Fresh {order : ℕ} (width rate : ℕ) (s : Sponge order) : Type 0 where
-  pub shape : shaped width rate ≡ true
-  pub width_is : s.width ≡ width
-  pub rate_is : s.rate ≡ rate
-  pub zeros : held s ≡ sponge_state (replicate width 0) []
+-- a sponge over a domain d and a permutation's meaning p
+module _ {D P : Type 0} {order : ℕ} {d : DomainGhosts D order} {p : PermutationGhosts P D order} where
+  abbrev pub held : Sponge D P order d p → SpongeState
+  held s = sponge_state (items s.row) (items s.outputs)
 
-abbrev pub SpongeMade : {order : ℕ} → ℕ → ℕ → Option (Sponge order) → Type 0
-SpongeMade width rate (Some s) = Fresh width rate s
-SpongeMade width rate None = shaped width rate ≡ false
+  -- the domain's arithmetic, the image of the sponge's permutation, and its width and rate
+  abbrev pub making : Sponge D P order d p → SpongeMake order
+  making s = record { arithmetic = d.arithmetic; image = p.image s.permutation; width = s.width; rate = s.rate }
 
--- the two have one width and rate
-pub record SameMake {order : ℕ} (s t : Sponge order) : Type 0 where
-  pub width : s.width ≡ t.width
-  pub rate : s.rate ≡ t.rate
+  -- a new sponge of this width, rate and permutation: zeros, and no output
+  pub record Fresh (width rate : ℕ) (permutation : P) (s : Sponge D P order d p) : Type 0 where
+    pub shape : shaped width rate ≡ true
+    pub permutation_is : s.permutation ≡ permutation
+    pub width_is : s.width ≡ width
+    pub rate_is : s.rate ≡ rate
+    pub zeros : held s ≡ sponge_state (replicate width 0) []
+
+  -- the two have one permutation, width and rate
+  pub record SameMake (s t : Sponge D P order d p) : Type 0 where
+    pub permutation : s.permutation ≡ t.permutation
+    pub width : s.width ≡ t.width
+    pub rate : s.rate ≡ t.rate

@@ -1,19 +1,25 @@
-//! A sponge: a row of codes, its width and rate, and the outputs not yet taken.
+//! A sponge: a row of codes under a permutation, its width and rate, and the outputs not yet taken.
 #![tactic(auto)]
 
 ghost use Rattle.std.specs.Prelude.{◌≡◌, ◌<◌, ◌≤◌, length};
 ghost use Rattle.buffer.specs.Items.{items};
 
 use buffer::Buffer;
+use domain::Domain;
+use permutation::CryptographicPermutation;
+use std::alloc::AllocError;
+use std::marker::PhantomData;
 
 mod both;
 mod moves;
 
-pub use both::{all_codes, turn_both};
+pub use both::turn_both;
 
-/// A row of `width` codes, of which the first `rate` are written by blocks and read as outputs.
-#[derive(Clone, Copy)]
-pub struct Sponge<const ORDER: u64> {
+/// A row of `width` codes and its permutation. Blocks write the first `rate` cells, and outputs are read from them.
+#[derive(Drop)]
+pub struct Sponge<D: Domain<ORDER>, P: CryptographicPermutation<D, ORDER>, const ORDER: u64> {
+    domain: PhantomData<D>,
+    permutation: P,
     width: usize,
     rate: usize,
     row: Buffer<ORDER, 64>,
@@ -22,3 +28,14 @@ pub struct Sponge<const ORDER: u64> {
     ghost wide: { rate < width },
     ghost sized: { length (items row) ≡ width },
 }
+
+// Kept as written by hand: a derive refuses a struct with type parameters and ghost fields.
+impl<D: Domain<ORDER> + Copy, P: CryptographicPermutation<D, ORDER> + Copy, const ORDER: u64> Clone
+    for Sponge<D, P, ORDER> {
+    fn clone(&self) -> Result<Self, AllocError> {
+        Ok(*self)
+    }
+}
+
+impl<D: Domain<ORDER> + Copy, P: CryptographicPermutation<D, ORDER> + Copy, const ORDER: u64> Copy
+    for Sponge<D, P, ORDER> {}

@@ -1,68 +1,47 @@
-ghost use Rattle.std.specs.Prelude.{◌≡◌, ◌+◌, ◌<◌, ◌≤◌, [], ◌∷◌, ◌++◌, length, take, drop, slice_index};
-ghost use Rattle.buffer.specs.Items.{items};
-ghost use Rattle.sponge.specs.Sponge.{sponge_state, padded, block_turn, empty_turn, last_output, without_last};
-ghost use Rattle.sponge.specs.SpongeHeld.{held, making, SpongeMade};
-
 use crate::Sponge;
 use buffer::Buffer;
 use domain::Domain;
 use permutation::CryptographicPermutation;
+use refusal::Refusal;
+use std::marker::PhantomData;
 
-/// The code at `i`, and 0 past the last.
-fn code_or_zero<const ORDER: u64>(codes: &Buffer<ORDER, 64>, i: usize) -> u64
-    requires positive { 0 < ORDER }
-    ensures value { result ≡ slice_index (items codes.now) i }
-    ensures code { result < ORDER }
-{
-    if i < codes.len() { codes.get(i) } else { 0 }
-}
+impl<D: Domain<ORDER>, P: CryptographicPermutation<D, ORDER> + Drop, const ORDER: u64> Sponge<
+    D,
+    P,
+    ORDER,
+> {
+    ghost use Rattle.std.specs.Prelude.{◌≡◌, false, MatchResult};
+    ghost use Rattle.refusal.specs.declared.Refusal.TheVariants.{Shape};
+    ghost use Rattle.sponge.specs.SpongeHeld.{shaped, Fresh};
 
-/// Writes the words into the first cells of the row, zeroes the rest of the rate, and adds the tag to cell `rate`.
-fn write_block<D: Domain<ORDER>, const ORDER: u64>(
-    row: &mut Buffer<ORDER, 64>,
-    words: &Buffer<ORDER, 64>,
-    tag: u64,
-    rate: usize,
-)
-    requires room { length (items words.now) ≤ rate }
-    requires wide { rate < length (items row.old) }
-    requires tagged { tag ≤ 255 }
-    ensures { items row.new ≡ padded (items words.now) rate ++ (D.Domain.arithmetic.add (slice_index (items row.old) rate) tag ∷ drop (rate + 1) (items row.old)) }
-{
-    for i in 0..rate {
-        row.put(i, code_or_zero(words, i));
-    }
-    let tagged = D::add(row.get(rate), tag);
-    row.put(rate, tagged);
-}
-
-/// Makes the outputs the first `rate` cells, in order.
-fn refill<const ORDER: u64>(outputs: &mut Buffer<ORDER, 64>, row: &Buffer<ORDER, 64>, rate: usize)
-    requires wide { rate ≤ length (items row.now) }
-    ensures { items outputs.new ≡ take rate (items row.now) }
-{
-    outputs.clear();
-    for k in 0..rate {
-        outputs.push(row.get(k));
-    }
-}
-
-impl<const ORDER: u64> Sponge<ORDER> {
-    /// Zeros, and no output; none if the shape is wrong.
-    pub fn new(width: usize, rate: usize) -> Option<Self>
-        requires positive { 0 < ORDER }
-        ensures { SpongeMade width rate result }
+    /// Zeros, and no output; refused if the rate is 0 or not below the width, or the width is above 64.
+    pub fn new(width: usize, rate: usize, permutation: P) -> Result<Self, Refusal>
+        ensures { MatchResult result (Fresh width rate permutation) (λ e. (shaped width rate ≡ false) × (e ≡ Shape)) }
     {
         if rate < 1 || rate >= width || width > 64 {
-            return None;
+            return Err(Refusal::Shape);
         }
-        Some(Sponge {
+        Ok(Sponge {
+            domain: PhantomData,
+            permutation,
             width,
             rate,
             row: Buffer::zeros(width),
             outputs: Buffer::zeros(0),
         })
     }
+}
+
+impl<D: Domain<ORDER>, P: CryptographicPermutation<D, ORDER>, const ORDER: u64> Sponge<
+    D,
+    P,
+    ORDER,
+> {
+    ghost use Rattle.std.specs.Prelude.{◌≡◌, ◌<◌, ◌≤◌, [], length};
+    ghost use Rattle.buffer.specs.Items.{items};
+    ghost use Rattle.sponge.specs.Sponge.{sponge_state, block_turn, empty_turn, last_output, without_last};
+    ghost use Rattle.sponge.specs.SpongeHeld.{held, making, SameMake};
+    ghost use Rattle.sponge.specs.CodesBlock.{turned};
 
     /// The number of cells.
     pub fn width(&self) -> usize
@@ -88,43 +67,49 @@ impl<const ORDER: u64> Sponge<ORDER> {
         self.outputs.len()
     }
 
-    /// A turn with a block: these words, under this tag.
-    pub fn absorb<D: Domain<ORDER>, P: CryptographicPermutation<D, ORDER>>(
-        &mut self,
-        permutation: &P,
-        words: &Buffer<ORDER, 64>,
-        tag: u64,
-    )
+    /// A turn with a block, these words under this tag: they are written into the first cells, the rest of the rate is zeroed, and cell `rate` gains the tag.
+    pub fn absorb(&mut self, words: &Buffer<ORDER, 64>, tag: u64)
         requires room { length (items words.now) ≤ self.old.rate }
         requires tagged { tag ≤ 255 }
-        ensures state { held self.new ≡ block_turn (making D.Domain.arithmetic (P.CryptographicPermutation.image permutation.now) self.old) (held self.old).row (items words.now) tag }
-        ensures width { self.new.width ≡ self.old.width }
-        ensures rate { self.new.rate ≡ self.old.rate }
+        ensures state { held self.new ≡ block_turn (making self.old) (held self.old).row (items words.now) tag }
+        ensures make { SameMake self.new self.old }
         ensures full { length (held self.new).outputs ≡ self.old.rate }
     {
-        write_block::<D, ORDER>(&mut self.row, words, tag, self.rate);
-        self.permute::<D, P>(permutation);
+        let tagged = D::add(self.row.get(self.rate), tag);
+        self.row.overwrite(words, self.rate);
+        self.row.put(self.rate, tagged);
+        self.permute();
     }
 
-    /// A turn with no block.
-    pub fn permute<D: Domain<ORDER>, P: CryptographicPermutation<D, ORDER>>(
-        &mut self,
-        permutation: &P,
-    )
-        ensures state { held self.new ≡ empty_turn (making D.Domain.arithmetic (P.CryptographicPermutation.image permutation.now) self.old) (held self.old).row }
-        ensures width { self.new.width ≡ self.old.width }
-        ensures rate { self.new.rate ≡ self.old.rate }
+    /// A turn with no block: the row is permuted, and the outputs are its first `rate` cells, in order.
+    pub fn permute(&mut self)
+        ensures state { held self.new ≡ empty_turn (making self.old) (held self.old).row }
+        ensures make { SameMake self.new self.old }
         ensures full { length (held self.new).outputs ≡ self.old.rate }
     {
-        self.row.permute::<D, P>(permutation);
-        refill(&mut self.outputs, &self.row, self.rate);
+        self.row.permute::<D, P>(&self.permutation);
+        self.outputs = self.row.front(self.rate);
+    }
+
+    /// A turn with these codes: a block tagged by their number, or no block if there is none.
+    pub fn turn(&mut self, codes: &Buffer<ORDER, 64>)
+        requires room { length (items codes.now) ≤ self.old.rate }
+        ensures state { held self.new ≡ turned (making self.old) (held self.old).row (items codes.now) }
+        ensures make { SameMake self.new self.old }
+        ensures full { length (held self.new).outputs ≡ self.old.rate }
+    {
+        let n = codes.len();
+        if n == 0 {
+            self.permute();
+            return;
+        }
+        self.absorb(codes, n as u64);
     }
 
     /// Drops all outputs.
     pub fn drop_outputs(&mut self)
         ensures state { held self.new ≡ sponge_state (held self.old).row [] }
-        ensures width { self.new.width ≡ self.old.width }
-        ensures rate { self.new.rate ≡ self.old.rate }
+        ensures make { SameMake self.new self.old }
     {
         self.outputs.clear();
     }
@@ -135,8 +120,7 @@ impl<const ORDER: u64> Sponge<ORDER> {
         ensures value { result ≡ last_output (held self.old).outputs }
         ensures code { result < ORDER }
         ensures state { held self.new ≡ sponge_state (held self.old).row (without_last (held self.old).outputs) }
-        ensures width { self.new.width ≡ self.old.width }
-        ensures rate { self.new.rate ≡ self.old.rate }
+        ensures make { SameMake self.new self.old }
     {
         self.outputs.pop()
     }

@@ -1,31 +1,16 @@
-use Rattle.std.proofs.Common.{List, length, ap, ◌∙◌}
+use Rattle.std.proofs.Common.{List, set, ap, ◌∙◌}
 use Rattle.buffer.specs.Items.{items}
 use Rattle.sponge.specs.Sponge.{refilled}
 use Rattle.sponge.specs.SpongeHeld.{making}
-use Rattle.sponge.proofs.Absorbing.{absorbed_is, absorbed-length}
-use Rattle.sponge.proofs.Turning.{sponge_row, rate_inside}
+use Rattle.sponge.proofs.Absorbing.{absorbed_is}
+use Rattle.sponge.proofs.Turning.{rate_inside}
 use Rattle.sponge.proofs.Sponge.absorb.Goals as goal
 
-pub invariant_of-self : goal.invariant_of-self
-invariant_of-self g c =
+pub returns-clause-state : goal.returns-clause-state
+returns-clause-state g c =
     let s = c.args.self.now in
-    let words = items c.args.words.now in
-    let k = making g.D.Domain.arithmetic (g.P.CryptographicPermutation.image c.args.permutation.now) s in
-    let long = absorbed-length k (items s.row) (sponge_row s) (rate_inside s) words c.args.tag c.requires.room in
-    record {
-      some = s.some;
-      wide = s.wide;
-      sized = ap length (c.write_block.ensures ∙ absorbed_is k (items s.row) words c.args.tag) ∙ long ∙ s.sized;
-    }
-
-pub returns : goal.returns
-returns g c =
-    let s = c.args.self.now in
-    let k = making g.D.Domain.arithmetic (g.P.CryptographicPermutation.image c.args.permutation.now) s in
-    let e = c.write_block.ensures ∙ absorbed_is k (items s.row) (items c.args.words.now) c.args.tag in
-    record {
-      state = c.permute.ensures.state ∙ ap (λ (row : List _). refilled k (k.image row)) e;
-      width = c.permute.ensures.width;
-      rate = c.permute.ensures.rate;
-      full = c.permute.ensures.full;
-    }
+    let k = making s in
+    let tagged = c.add-tagged.ensures ∙ ap (λ x. k.arithmetic.add x c.args.tag) c.get.ensures.value in
+    let row = c.put.ensures ∙ ap (λ (xs : List _). set xs s.rate c.add-tagged.result) c.overwrite.ensures
+    ∙ absorbed_is k (items s.row) (items c.args.words.now) c.args.tag c.add-tagged.result c.requires.room (rate_inside s) tagged in
+    c.permute.ensures.state ∙ ap (λ (row : List _). refilled k (k.image row)) row

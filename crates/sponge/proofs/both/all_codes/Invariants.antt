@@ -1,6 +1,0 @@
-use Rattle.std.proofs.Common.{◌≡◌, drop}
-use Rattle.sponge.specs.CodesBlock.{all_codes}
-use Rattle.sponge.proofs.both.all_codes.Given as goal
-
-abbrev pub invariant-loop-c : goal.invariant-loop-c
-invariant-loop-c g l = all_codes g.row.ORDER (drop l.c-index l.codes) ≡ all_codes g.row.ORDER l.codes

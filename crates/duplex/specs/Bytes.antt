@@ -3,8 +3,8 @@ use Rattle.std.specs.Prelude.{ℕ, true, refl}
 use Rattle.std.proofs.Common.{arith, lit≤}
 use Rattle.sponge.specs.Sponge.{SpongeMake}
 use Rattle.transcript.specs.Transcript.{Transcript}
-use Rattle.duplexing.specs.declared.held.DuplexHeld.{DuplexHeld}
-use Rattle.duplexing.specs.Rules.{taken, sample_of, finalized}
+use Rattle.duplex.specs.declared.held.DuplexHeld.{DuplexHeld}
+use Rattle.duplex.specs.Rules.{taken, sample_of, finalized}
 
 abbrev pub byte_transcript : {order : ℕ} → SpongeMake order → Transcript DuplexHeld
 byte_transcript k = record {

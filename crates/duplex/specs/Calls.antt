@@ -8,9 +8,9 @@ use Rattle.runs.specs.Answers.{as_done, as_bits, as_checked, as_ground, answered
 use Rattle.runs.specs.Runs.{Rule, ChecksStand}
 use Rattle.runs.specs.RunLaws.{checks_stand}
 use Rattle.sponge.specs.Sponge.{SpongeMake}
-use Rattle.duplexing.specs.declared.held.DuplexHeld.{DuplexHeld}
-use Rattle.duplexing.specs.Rules.{observed, sample_of, drawing, means}
-use Rattle.duplexing.specs.Uniform.{uniform_of}
+use Rattle.uniform.specs.Uniform.{uniform_of}
+use Rattle.duplex.specs.declared.held.DuplexHeld.{DuplexHeld}
+use Rattle.duplex.specs.Rules.{observed, sample_of, drawing, means}
 
 module _ {order : ℕ} (k : SpongeMake order) where
   -- what each call says and leaves; observing a digest is observing
@@ -19,7 +19,7 @@ module _ {order : ℕ} (k : SpongeMake order) where
   rule h (ObserveDigest xs) = answered as_done (observe_of (observed k h xs.now) h)
   rule h Sample = answered Code (sample_of k h)
   rule h (SampleBits b) = answered as_bits (bits_of (drawing k) h b)
-  rule h (UniformBits b l) = answered as_bits (uniform_of k h b l)
+  rule h (UniformBits b l) = answered as_bits (uniform_of (sample_of k) order k.arithmetic.single h b l)
   rule h (CheckWitness b w) = answered as_checked (check_of (means k) h b w)
   rule h (Grind b n) = answered as_ground (grind_of (means k) h b n)
 

@@ -1,7 +1,7 @@
 // The duplex challenger over bytes, as a byte transcript.
 ghost use Rattle.std.specs.Prelude.{◌≡◌, ℕ, true, List, refl};
 ghost use Rattle.buffer.specs.Items.{items};
-ghost use Rattle.duplexing.specs.Holds.{of_make};
+ghost use Rattle.duplex.specs.Holds.{of_make};
 ghost use Rattle.duplex.specs.Bytes.{byte_transcript};
 
 use crate::DuplexChallenger;
@@ -29,7 +29,9 @@ impl<D: ByteDomain<ORDER>, P: CryptographicPermutation<D, ORDER>, const ORDER: u
     }
 
     fn observe_bytes(&mut self, bytes: &[u8]) -> Result<(), Refusal> {
-        self.state.observe_bytes::<D, P>(&self.permutation, bytes);
+        for b in bytes {
+            self.take(*b as u64);
+        }
         Ok(())
     }
 

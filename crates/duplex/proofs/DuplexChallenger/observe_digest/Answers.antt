@@ -1,8 +1,0 @@
-use Rattle.std.proofs.Common.{ap}
-use Rattle.duplexing.specs.Holds.{made}
-use Rattle.duplex.proofs.DuplexChallenger.observe_digest.Goals as goal
-
-pub returns : goal.returns
-returns g c =
-    let did = c.observe.ensures.does in
-    record { does = record { answer = did.answer; state = did.state; same_make = ap (λ p. made p c.args.self.now.permutation) did.same_make } }

@@ -1,0 +1,64 @@
+-- The rules of the duplex challenger, on what it holds.
+use Rattle.std.specs.Prelude.{ℕ, ◌%◌, ◌^◌, cond, ◌||◌, List, [], ◌∷◌, ◌++◌, length, replicate, Ok, Err, Result, ◌==◌, nat_lt}
+use Rattle.std.proofs.Common.{mod-lt, pow_pos}
+use Rattle.refusal.specs.declared.Refusal.{Refusal}
+use Rattle.refusal.specs.declared.Refusal.TheVariants.{NotCode}
+use Rattle.interface.specs.Meaning.{Reply, reply, Drawing}
+use Rattle.interface.specs.Grinding.{Means}
+use Rattle.sponge.specs.Sponge.{SpongeMake, SpongeState, last_output, without_last}
+use Rattle.domain.specs.Codes.{all_codes}
+use Rattle.sponge.specs.CodesBlock.{turned as sponge_turned}
+use Rattle.duplex.specs.declared.held.DuplexHeld.{DuplexHeld}
+
+abbrev pub holding : List ℕ → List ℕ → List ℕ → DuplexHeld
+holding row pending outputs = record { row = row; pending = pending; outputs = outputs }
+
+-- nothing is pending after a turn
+abbrev pub after_turn : SpongeState → DuplexHeld
+after_turn s = holding s.row [] s.outputs
+
+module _ {order : ℕ} (k : SpongeMake order) where
+  -- zeros, nothing pending, no output
+  abbrev pub fresh : DuplexHeld
+  fresh = holding (replicate k.width 0) [] []
+
+  -- a turn: the pending codes are absorbed as a block tagged by their number, or, if there is none, the row is only permuted; the outputs become the rate
+  unfoldable pub turned : DuplexHeld → DuplexHeld
+  turned h = after_turn (sponge_turned k h.row h.pending)
+
+  -- one code observed: all outputs are dropped, the code is appended, and a turn comes when RATE codes are pending
+  unfoldable pub taken : DuplexHeld → ℕ → DuplexHeld
+  taken h c =
+      let more : DuplexHeld = holding h.row (h.pending ++ (c ∷ [])) [] in
+      cond (length more.pending == k.rate) (turned more) more
+
+  abbrev pub all_taken : DuplexHeld → List ℕ → DuplexHeld
+  all_taken h [] = h
+  all_taken h (c ∷ cs) = all_taken (taken h c) cs
+
+  -- what an observe leaves, or its refusal
+  abbrev pub observed : DuplexHeld → List ℕ → Result DuplexHeld Refusal
+  observed h xs = cond (all_codes order xs) (Ok (all_taken h xs)) (Err NotCode)
+
+  -- before a sample a turn comes, if codes are pending or no output is left
+  unfoldable pub ready : DuplexHeld → DuplexHeld
+  ready h = cond (nat_lt 0 (length h.pending) || length h.outputs == 0) (turned h) h
+
+  -- a sample takes the last output
+  abbrev pub without_output : DuplexHeld → DuplexHeld
+  without_output h = holding h.row h.pending (without_last h.outputs)
+
+  unfoldable pub sample_of : DuplexHeld → Reply ℕ DuplexHeld
+  sample_of h = reply (last_output (ready h).outputs) (without_output (ready h))
+
+  -- bits are the low bits of one sample
+  abbrev pub drawing : Drawing DuplexHeld
+  drawing = record { order = order; drawn = λ h b. (sample_of h).said % 2 ^ b; after = λ h b. (sample_of h).left; below = λ h b. mod-lt _ (pow_pos b) }
+
+  -- a check starts where it stands
+  abbrev pub means : Means DuplexHeld
+  means = record { observed = observed; drawing = drawing; started = λ h. h }
+
+  -- the digest: the rate after one more turn
+  abbrev pub finalized : DuplexHeld → List ℕ
+  finalized h = (turned h).outputs

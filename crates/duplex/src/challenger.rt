@@ -1,0 +1,201 @@
+// The challenger and its single calls.
+ghost use Rattle.std.specs.Prelude.{◌≡◌, ◌<◌, true, false, ◌&&◌, length, MatchResult, ◌==◌};
+ghost use Rattle.refusal.specs.declared.Refusal.TheVariants.{Shape};
+ghost use Rattle.buffer.specs.Items.{items};
+ghost use Rattle.interface.specs.Meaning.{Does, observe_of};
+ghost use Rattle.runs.specs.Runs.{OneMake};
+ghost use Rattle.sponge.specs.SpongeHeld.{shaped};
+ghost use Rattle.uniform.specs.Uniform.{uniform_of};
+ghost use Rattle.duplex.specs.Rules.{fresh as fresh_of, taken, turned, observed as observed_of, ready, sample_of, drawing as drawing_of, finalized};
+ghost use Rattle.duplex.specs.Holds.{made, of_make, held as held_in, make as make_of, making};
+ghost use Rattle.duplex.specs.Calls.{rule as rule_of};
+
+use crate::{DuplexChallenger, DuplexHeld, DuplexMake};
+use buffer::Buffer;
+use domain::{Domain, all_codes};
+use draws::{CanDraw, low_bits};
+use interface::{CanObserve, CanSampleBits, Holding, few_bits};
+use permutation::CryptographicPermutation;
+use refusal::Refusal;
+use sponge::Sponge;
+use uniform::uniform_bits;
+
+impl<
+    D: Domain<ORDER>,
+    P: CryptographicPermutation<D, ORDER> + Drop,
+    const ORDER: u64,
+> DuplexChallenger<D, P, ORDER> {
+    /// A fresh challenger; refused if RATE is 0 or not below WIDTH, or WIDTH is above 64.
+    pub fn new(width: usize, rate: usize, permutation: P) -> Result<Self, Refusal>
+        ensures { MatchResult result (λ s. (shaped width rate ≡ true) × (make_of s ≡ made width rate permutation) × (held_in s ≡ fresh_of (making s))) (λ e. (shaped width rate ≡ false) × (e ≡ Shape)) }
+    {
+        let sponge = Sponge::new(width, rate, permutation)?;
+        Ok(DuplexChallenger {
+            sponge,
+            pending: Buffer::zeros(0),
+        })
+    }
+
+    /// Ends the challenger: the rate after one more turn.
+    pub fn finalize(self) -> Buffer<ORDER, 64>
+        ensures { items result ≡ finalized (making self) (held_in self) }
+    {
+        let mut last = self;
+        last.turn();
+        last.sponge.outputs()
+    }
+}
+
+impl<D: Domain<ORDER>, P: CryptographicPermutation<D, ORDER>, const ORDER: u64> Holding
+    for DuplexChallenger<D, P, ORDER> {
+    type Make = DuplexMake<P>;
+
+    type Held = DuplexHeld;
+
+    ghost make = { make_of };
+
+    ghost held = { held_in };
+
+    ghost fresh = { λ m. fresh_of (of_make D.Domain.arithmetic P.CryptographicPermutation.image m) };
+}
+
+impl<D: Domain<ORDER>, P: CryptographicPermutation<D, ORDER>, const ORDER: u64> CanObserve
+    for DuplexChallenger<D, P, ORDER> {
+    ghost observed = { λ m. observed_of (of_make D.Domain.arithmetic P.CryptographicPermutation.image m) };
+
+    fn observe(&mut self, codes: &[u64]) -> Result<(), Refusal> {
+        if !all_codes::<ORDER>(codes) {
+            return Err(Refusal::NotCode);
+        }
+        for c in codes {
+            self.take(*c);
+        }
+        Ok(())
+    }
+}
+
+impl<D: Domain<ORDER>, P: CryptographicPermutation<D, ORDER>, const ORDER: u64> CanSampleBits
+    for DuplexChallenger<D, P, ORDER> {
+    ghost drawing = { λ m. drawing_of (of_make D.Domain.arithmetic P.CryptographicPermutation.image m) };
+
+    fn order(&self) -> u64 {
+        ORDER
+    }
+
+    fn sample_bits(&mut self, bits: u64) -> Result<u64, Refusal> {
+        if !few_bits(ORDER, bits) {
+            return Err(Refusal::Bits);
+        }
+        Ok(low_bits(self.sample(), bits))
+    }
+}
+
+impl<D: Domain<ORDER>, P: CryptographicPermutation<D, ORDER>, const ORDER: u64> CanDraw
+    for DuplexChallenger<D, P, ORDER> {
+    ghost drawn = { λ m. sample_of (of_make D.Domain.arithmetic P.CryptographicPermutation.image m) };
+
+    fn draw(&mut self) -> u64 {
+        self.sample()
+    }
+}
+
+impl<D: Domain<ORDER>, P: CryptographicPermutation<D, ORDER>, const ORDER: u64> DuplexChallenger<
+    D,
+    P,
+    ORDER,
+> {
+    /// Takes one code.
+    #[tactic(auto, unfolding(crate::specs::Rules::taken, crate::specs::Rules::turned))]
+    pub(crate) fn take(&mut self, c: u64)
+        requires code { c < ORDER }
+        ensures state { held_in self.new ≡ taken (making self.old) (held_in self.old) c }
+        ensures make { make_of self.new ≡ make_of self.old }
+    {
+        self.sponge.drop_outputs();
+        self.pending.push(c);
+        if self.pending.len() == self.sponge.rate() {
+            self.sponge.turn(&self.pending);
+            self.pending.clear();
+        }
+    }
+
+    /// One turn: what is pending is absorbed, if there is some, and the row is permuted.
+    #[tactic(auto, unfolding(crate::specs::Rules::turned))]
+    fn turn(&mut self)
+        ensures state { held_in self.new ≡ turned (making self.old) (held_in self.old) }
+        ensures make { make_of self.new ≡ make_of self.old }
+        ensures full { length (held_in self.new).outputs ≡ self.old.sponge.rate }
+    {
+        self.sponge.turn(&self.pending);
+        self.pending.clear();
+    }
+
+    /// Turns, if codes are pending or no output is left.
+    #[tactic(auto, unfolding(crate::specs::Rules::ready))]
+    fn prepare(&mut self)
+        ensures state { held_in self.new ≡ ready (making self.old) (held_in self.old) }
+        ensures make { make_of self.new ≡ make_of self.old }
+        ensures some { 0 < length (held_in self.new).outputs }
+    {
+        if self.pending.len() == 0 && self.sponge.outputs_left() > 0 {
+            return;
+        }
+        self.turn();
+    }
+
+    /// Observes a digest: its codes.
+    pub fn observe_digest(&mut self, codes: &[u64]) -> Result<(), Refusal>
+        ensures does { Does make_of held_in self.old self.new result (observe_of (observed_of (making self.old) (held_in self.old) codes.now) (held_in self.old)) }
+    {
+        self.observe(codes)
+    }
+
+    /// The last output, after a turn if codes are pending or no output is left.
+    #[tactic(auto, unfolding(crate::specs::Rules::sample_of))]
+    pub fn sample(&mut self) -> u64
+        ensures does { Does make_of held_in self.old self.new result (sample_of (making self.old) (held_in self.old)) }
+        ensures code { result < ORDER }
+    {
+        self.prepare();
+        self.sponge.pop_output()
+    }
+
+    /// Bits without bias, each bounded draw within the limit; at bits 0 it gives 0 and moves nothing.
+    pub fn sample_uniform_bits(&mut self, bits: u64, limit: u64) -> Result<u64, Refusal>
+        ensures does { Does make_of held_in self.old self.new result (uniform_of (sample_of (making self.old)) ORDER D.Domain.arithmetic.single (held_in self.old) bits limit) }
+    {
+        uniform_bits(self, ORDER, D::single() as u64, bits, limit)
+    }
+
+    /// Have both the same WIDTH and RATE? Then, over equal arithmetic and permutations of equal image, they are of one make.
+    pub fn same_numbers<E: Domain<ORDER>, Q: CryptographicPermutation<E, ORDER>>(
+        &self,
+        other: &DuplexChallenger<E, Q, ORDER>,
+    ) -> bool
+        ensures value { result ≡ ((make_of self.now).width == (make_of other.now).width && (make_of self.now).rate == (make_of other.now).rate) }
+        ensures make { result ≡ true → D.Domain.arithmetic ≡ E.Domain.arithmetic → (making self.now).image ≡ (making other.now).image → OneMake (rule_of (making self.now)) (rule_of (making other.now)) (fresh_of (making self.now)) (fresh_of (making other.now)) }
+    {
+        self.sponge.width() == other.sponge.width() && self.sponge.rate() == other.sponge.rate()
+    }
+
+    /// The row, to be read.
+    pub fn row(&self) -> &[u64]
+        ensures { result.now ≡ (held_in self.now).row }
+    {
+        self.sponge.row_slice()
+    }
+
+    /// The pending codes, to be read.
+    pub fn pending(&self) -> &[u64]
+        ensures { result.now ≡ (held_in self.now).pending }
+    {
+        self.pending.as_slice()
+    }
+
+    /// The outputs not yet taken, to be read.
+    pub fn outputs(&self) -> &[u64]
+        ensures { result.now ≡ (held_in self.now).outputs }
+    {
+        self.sponge.outputs_slice()
+    }
+}

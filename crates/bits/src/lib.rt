@@ -11,10 +11,5 @@ pub fn code_bits(order: u64) -> u64
     ensures least { LeastBits order result }
     ensures few { result ≤ 32 }
 {
-    for bits in 0..32 {
-        if order <= 1 << bits {
-            return bits;
-        }
-    }
-    32
+    order.next_power_of_two().ilog2() as u64
 }

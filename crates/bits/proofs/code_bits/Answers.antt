@@ -1,25 +1,12 @@
-use Rattle.std.proofs.Common.{◌≡◌, ◌^◌, true, leb, sym, subst, arith, lit<}
-use Rattle.std.proofs.lemmas.Nat.{one_shl}
-use Rattle.std.proofs.lemmas.Bool.{le-leb}
-use Rattle.interface.specs.GrindingLaws.{first_is}
+use Rattle.std.proofs.Common.{◌≡◌, arith, sym, ◌∙◌, subst}
 use Rattle.bits.specs.CodeBits.{code_bits, LeastBits}
-use Rattle.bits.specs.CodeBitsLaw.{code_bits-least}
+use Rattle.bits.specs.CodeBitsLaw.{exponent, at_most, code_bits-least, code_bits-next}
 use Rattle.bits.proofs.code_bits.Goals as goal
 
-pub returns-then-order-bits : goal.returns-then-order-bits
-unfolding code_bits
-returns-then-order-bits c =
-    let n = c.args.order in
-    let w = c.loop-bits.bits in
-    let shl = one_shl w 64 (omega arith) in
-    let holds : leb n (2 ^ w) ≡ true = le-leb n (2 ^ w) (omega arith) in
-    let value = sym (first_is (λ k. leb n (2 ^ k)) 33 w (omega arith) c.loop-bits.invariant holds) in
-    record { value = value; least = subst (LeastBits n) (sym value) (code_bits-least n c.requires.small); few = omega arith }
-
 pub returns : goal.returns
-unfolding code_bits
 returns c =
     let n = c.args.order in
-    let holds : leb n (2 ^ 32) ≡ true = le-leb n (2 ^ 32) (omega arith) in
-    let value = sym (first_is (λ k. leb n (2 ^ k)) 33 32 (lit< tt) (λ k lt. c.loop-bits.invariant k (omega arith)) holds) in
-    record { value = value; least = subst (LeastBits n) (sym value) (code_bits-least n c.requires.small); few = omega arith }
+    let m = c.next_power_of_two.ensures in
+    let value : c.ilog2.result ≡ code_bits n =
+    exponent _ m.power.0 _ m.power.1 c.ilog2.ensures.power_le c.ilog2.ensures.next_power_gt ∙ code_bits-next n c.requires.small _ m.power.0 m.power.1 (omega arith) (omega arith) in
+    record { value = value; least = subst (LeastBits n) (sym value) (code_bits-least n c.requires.small); few = omega (arith, value, at_most n c.requires.small) }

@@ -1,47 +1,71 @@
--- One group of scalars, packed from its end. Assumes nothing.
-use Rattle.std.proofs.Common.{◌≡◌, ℕ, ◌+◌, ◌-◌, ◌*◌, ◌^◌, ◌<◌, ◌≤◌, min, List, length, get_or, drop, sym, ap, ◌∙◌, arith}
-use Rattle.std.proofs.lemmas.List.{length-drop, get_or-drop, get_or-take, drop_all, at_drop_more}
+-- One group of scalars, packed from its end, and the groups of a list in turn. Assumes nothing.
+use Rattle.std.proofs.Common.{◌≡◌, ℕ, ◌+◌, ◌-◌, ◌*◌, ◌/◌, ◌^◌, ◌<◌, ◌≤◌, min, List, ◌++◌, length, get_or, take, drop, sym, ap, ◌∙◌, inl, inr, mul_comm, mul-add, mul-one, arith}
+use Rattle.std.specs.Prelude.{reverse}
+use Rattle.std.proofs.Math.Seq.{take-append_seam, drop-append_seam}
+use Rattle.std.proofs.lemmas.Bool.{cases_lt}
+use Rattle.std.proofs.lemmas.Nat.{div-mul-add}
+use Rattle.std.proofs.lemmas.List.{length-drop, length-reverse, get_or-drop, get_or-reverse, get_or_default, drop_all, drop-drop, at_drop_more, take_min, drop_min}
 use Rattle.permutation.specs.Rows.{Codes}
 use Rattle.bits.specs.CodeBits.{code_bits}
 use Rattle.packing.specs.Powers.{limbs}
 use Rattle.packing.specs.Packing.{pack, group, groups}
-use Rattle.packing.specs.PackingLaws.{pack_cons, pack-none, pack-word, group-length, group_inside, group-codes, limbs-some, limbs-few}
+use Rattle.packing.specs.PackingLaws.{pack_cons, pack-none, pack-word, some-group, group_inside}
 
-pub times : (a b c d : ℕ) → a ≡ b → c ≡ d → a * c ≡ b * d
-times a b c d p q = ap (λ n. n * c) p ∙ ap (λ n. b * n) q
-
-pub codes-drop : (order j : ℕ) (xs : List ℕ) → Codes order xs → Codes order (drop j xs)
+codes-drop : (order j : ℕ) (xs : List ℕ) → Codes order xs → Codes order (drop j xs)
 codes-drop order j xs h k lt = rw (get_or-drop j xs k 0) (h (j + k) (omega (arith, length-drop j xs)))
 
-module _ (sampled order : ℕ) (low : 2 ≤ sampled) (small : sampled ≤ 4294967296) (less : sampled < order) (high : order < 2 ^ 64)
-    (n : ℕ) (is : n ≡ limbs sampled order) (vs : List ℕ) (codes : Codes sampled vs) where
-  pub size-some : 1 ≤ n
-  size-some = omega (arith, limbs-some sampled order low small less high)
+-- what the last scalars of a group pack to
+abbrev pub end_word : ℕ → List ℕ → ℕ → ℕ
+end_word sampled g k = pack (code_bits sampled) (drop (length g - k) g)
 
-  pub size_few : n ≤ 64
-  size_few = omega (arith, limbs-few sampled order low small less high)
+module _ (sampled : ℕ) (g : List ℕ) where
+  pub end_none : 0 ≡ end_word sampled g 0
+  end_none = sym (ap (pack (code_bits sampled)) (drop_all (length g - 0) g (omega arith)) ∙ pack-none (code_bits sampled))
 
-  pub start_inside : (i : ℕ) → i < groups n vs → i * n < length vs
-  start_inside i h = group_inside n size-some vs i h
-
-  pub group-size : (i : ℕ) → length (group n vs i) ≡ min n (length vs - i * n)
-  group-size i = group-length n size-some vs i
-
-  pub part_word : (i j : ℕ) → pack (code_bits sampled) (drop j (group n vs i)) < order
-  part_word i j =
-      pack-word sampled order low small less high (drop j (group n vs i)) (omega (arith, length-drop j (group n vs i), group-size i))
-      (codes-drop sampled j (group n vs i) (group-codes n size-some sampled vs i codes))
-
-  pub part_none : (i j : ℕ) → length (group n vs i) ≤ j → 0 ≡ pack (code_bits sampled) (drop j (group n vs i))
-  part_none i j h = sym (ap (pack (code_bits sampled)) (drop_all j (group n vs i) h) ∙ pack-none (code_bits sampled))
+  pub end_all : (k : ℕ) → k ≡ length (reverse g) → end_word sampled g k ≡ pack (code_bits sampled) g
+  end_all k e =
+      let z : length g - k ≡ 0 = omega (arith, e, length-reverse g) in
+      ap (λ n. pack (code_bits sampled) (drop n g)) z
 
   -- one scalar more, from the end
-  pub part_more : (i j : ℕ) → 0 < j → j ≤ length (group n vs i)
-      → pack (code_bits sampled) (drop (j - 1) (group n vs i)) ≡ pack (code_bits sampled) (drop j (group n vs i)) * 2 ^ code_bits sampled + get_or vs (i * n + (j - 1)) 0
-  part_more i j some h =
-      let g = group n vs i in
-      let back : j - 1 + 1 ≡ j = omega arith in
-      let v : get_or g (j - 1) 0 ≡ get_or vs (i * n + (j - 1)) 0 =
-      get_or-take n (drop (i * n) vs) (j - 1) 0 (omega (arith, group-size i)) ∙ get_or-drop (i * n) vs (j - 1) 0 in
-      at_drop_more (pack (code_bits sampled)) g (j - 1) 0 (omega arith) ∙ pack_cons (code_bits sampled) (get_or g (j - 1) 0) (drop (j - 1 + 1) g)
-      ∙ ap (λ m. pack (code_bits sampled) (drop m g) * 2 ^ code_bits sampled + get_or g (j - 1) 0) back ∙ ap (λ x. pack (code_bits sampled) (drop j g) * 2 ^ code_bits sampled + x) v
+  pub end_more : (radix k x word : ℕ) → radix ≡ 2 ^ code_bits sampled → (k < length (reverse g)) × (x ≡ get_or (reverse g) k x)
+      → word ≡ end_word sampled g k → word * radix + x ≡ end_word sampled g (k + 1)
+  end_more radix k x word r t w =
+      let b = code_bits sampled in
+      let inside : k < length g = omega (arith, t.0, length-reverse g) in
+      let j = length g - 1 - k in
+      let at : x ≡ get_or g j 0 = t.1 ∙ get_or-reverse g k x inside ∙ get_or_default g j x 0 (omega arith) in
+      let next : j + 1 ≡ length g - k = omega arith in
+      let last : j ≡ length g - (k + 1) = omega arith in
+      ap (λ n. word * n + x) r ∙ ap (λ n. n * 2 ^ b + x) (w ∙ ap (λ n. pack b (drop n g)) (sym next)) ∙ ap (λ n. pack b (drop (j + 1) g) * 2 ^ b + n) at
+      ∙ sym (at_drop_more (pack b) g j 0 (omega arith) ∙ pack_cons b (get_or g j 0) (drop (j + 1) g)) ∙ ap (λ n. pack b (drop n g)) last
+
+pub end-code : (sampled order : ℕ) → 2 ≤ sampled → sampled ≤ 4294967296 → sampled < order → order < 2 ^ 64
+    → (g : List ℕ) → length g ≤ limbs sampled order → Codes sampled g → (k : ℕ) → end_word sampled g k < order
+end-code sampled order low small less high g few codes k =
+    let j = length g - k in
+    pack-word sampled order low small less high (drop j g) (omega (arith, length-drop j g)) (codes-drop sampled j g codes)
+
+-- a list taken apart in pieces of n, from the front: piece i is group i
+module _ (n : ℕ) (some : 1 ≤ n) (all : List ℕ) where
+  pub piece_more : (i size : ℕ) (left piece rest : List ℕ) → size ≡ n → left ≡ drop (i * n) all
+      → (left ≡ piece ++ rest) × (length piece ≡ min size (length left)) × (0 < length left)
+      → (piece ≡ group n all i) × (rest ≡ drop ((i + 1) * n) all) × (i < groups n all)
+  piece_more i size left piece rest s l p =
+      let m : length piece ≡ min n (length left) = p.1 ∙ ap (λ x. min x (length left)) s in
+      let first : piece ≡ take n left = sym (take-append_seam piece rest) ∙ ap (take (length piece)) (sym p.0) ∙ ap (λ x. take x left) m ∙ take_min n left in
+      let rests : rest ≡ drop n left = sym (drop-append_seam piece rest) ∙ ap (drop (length piece)) (sym p.0) ∙ ap (λ x. drop x left) m ∙ drop_min n left in
+      let next : i * n + n ≡ (i + 1) * n = sym (mul_comm (i + 1) n ∙ mul-add n i 1 ∙ ap (λ x. n * i + x) (mul-one n) ∙ ap (λ x. x + n) (mul_comm n i)) in
+      let here : i * n + 0 < length all = omega (arith, ap length l, length-drop (i * n) all, p.2) in
+      let at : (i * n + 0) / n ≡ i = div-mul-add i n 0 some in (
+        first ∙ ap (take n) l,
+        rests ∙ ap (drop n) l ∙ drop-drop n (i * n) all ∙ ap (λ x. drop x all) next,
+        omega (arith, at, some-group n some all (i * n + 0) here),
+      )
+
+  pub piece_end : (i : ℕ) (left : List ℕ) → left ≡ drop (i * n) all → length left ≡ 0 → i ≤ groups n all → i ≡ groups n all
+  piece_end i left l none few =
+      elim (cases_lt i (groups n all)) [
+        | inl h ↦ absurd (omega (arith, ap length l, length-drop (i * n) all, group_inside n some all i h))
+        | inr h ↦ omega arith
+      ]

@@ -1,1 +1,2 @@
-mod Groups
+pub mod Groups
+pub mod Facts

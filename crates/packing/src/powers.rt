@@ -1,9 +1,7 @@
-// The numbers of a pair of domains.
+// Greatest powers, and how many scalars a word takes.
 ghost use Rattle.std.specs.Prelude.{◌≡◌, ◌^◌, ◌≤◌};
 ghost use Rattle.bits.specs.CodeBits.{code_bits};
 ghost use Rattle.packing.specs.Powers.{limbs, greatest_power, GreatestPower, Limbs};
-
-use bits::code_bits;
 
 /// The greatest n with base^n at most the order.
 pub fn greatest_power(base: u64, order: u64) -> usize
@@ -12,13 +10,7 @@ pub fn greatest_power(base: u64, order: u64) -> usize
     ensures value { result ≡ greatest_power base order }
     ensures greatest { GreatestPower base order result }
 {
-    let mut n = 0;
-    let mut power: u64 = 1;
-    while power <= order / base {
-        power *= base;
-        n += 1;
-    }
-    n
+    order.ilog(base) as usize
 }
 
 /// The power of two by which a scalar weighs more than the one before it.
@@ -26,7 +18,7 @@ pub fn radix(sampled: u64) -> u64
     requires small { sampled ≤ 4294967296 }
     ensures { result ≡ 2 ^ code_bits sampled }
 {
-    1 << code_bits(sampled)
+    sampled.next_power_of_two()
 }
 
 /// How many scalars a word takes.
@@ -38,5 +30,5 @@ pub fn limbs(sampled: u64, order: u64) -> usize
     ensures words { Limbs sampled order result }
 {
     let n = greatest_power(radix(sampled), order);
-    if n < 1 { 1 } else { n }
+    n.max(1)
 }

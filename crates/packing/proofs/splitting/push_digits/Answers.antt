@@ -2,7 +2,7 @@ use Rattle.std.proofs.Common.{◌≡◌, ℕ, suc, ◌+◌, ◌-◌, ◌/◌, �
 use Rattle.std.proofs.lemmas.List.{append-nil, length_push}
 use Rattle.buffer.specs.Items.{items}
 use Rattle.packing.specs.Packing.{split}
-use Rattle.packing.proofs.packing.push_digits.Goals as goal
+use Rattle.packing.proofs.splitting.push_digits.Goals as goal
 
 -- one digit more
 digit_more : (base count i w : ℕ) (xs ys : List ℕ) → i < count → ys ≡ xs ++ (w % base ∷ []) → ys ++ split base (count - (i + 1)) (w / base) ≡ xs ++ split base (count - i) w
@@ -14,14 +14,14 @@ digits_done : (base m w : ℕ) (xs : List ℕ) → m ≡ 0 → xs ++ split base 
 digits_done base m w xs e = ap (λ n. xs ++ split base n w) e ∙ append-nil xs
 
 pub push-requires : goal.push-requires
-push-requires g c = (lit< tt, (omega (arith, c.loop-i.invariant.0, c.requires.room), mod-lt c.loop-i.rest (omega (arith, c.requires.low))))
+push-requires g c = (lit< tt, (omega (arith, c.loop.invariant.0, c.requires.room), mod-lt c.loop.rest (omega (arith, c.requires.low))))
 
-pub loop-i-preserved : goal.loop-i-preserved
-loop-i-preserved g c = (
-  ap length c.push.ensures ∙ length_push (items c.loop-i.scalars) (c.loop-i.rest % g.row.SAMPLED) ∙ omega (arith, c.loop-i.invariant.0),
-  digit_more g.row.SAMPLED c.args.count c.loop-i.i c.loop-i.rest (items c.loop-i.scalars) _ c.loop-i-test.true c.push.ensures ∙ c.loop-i.invariant.1,
+pub loop-preserved : goal.loop-preserved
+loop-preserved g c = (
+  ap length c.push.ensures ∙ length_push (items c.loop.scalars) (c.loop.rest % g.row.SAMPLED) ∙ omega (arith, c.loop.invariant.0),
+  digit_more g.row.SAMPLED c.args.count c.loop.counter c.loop.rest (items c.loop.scalars) _ c.loop-test.true c.push.ensures ∙ c.loop.invariant.1,
 )
 
 pub returns : goal.returns
 returns g c =
-    sym (digits_done g.row.SAMPLED (c.args.count - c.loop-i.i) c.loop-i.rest (items c.loop-i.scalars) (omega arith)) ∙ c.loop-i.invariant.1
+    sym (digits_done g.row.SAMPLED (c.args.count - c.loop.counter) c.loop.rest (items c.loop.scalars) (omega arith)) ∙ c.loop.invariant.1

@@ -1,0 +1,15 @@
+use Rattle.std.proofs.Common.{◌≡◌, ap, subst, sym, arith}
+use Rattle.bits.specs.CodeBitsLaw.{code_bits-least}
+use Rattle.packing.specs.Powers.{limbs, greatest_power, Limbs}
+use Rattle.packing.specs.PowerLaws.{limbs-words}
+use Rattle.packing.proofs.powers.limbs.Goals as goal
+
+pub greatest_power-n-requires : goal.greatest_power-n-requires
+greatest_power-n-requires c = record { base = omega (arith, c.radix.ensures, c.requires.low, (code_bits-least c.args.sampled c.requires.small).enough); some = c.requires.some }
+
+pub returns : goal.returns
+unfolding limbs
+returns c =
+    let a = c.args in
+    let value : c.max.result ≡ limbs a.sampled a.order = omega (arith, ap (λ b. greatest_power b a.order) c.radix.ensures) in
+    record { value = value; words = subst (Limbs a.sampled a.order) (sym value) (limbs-words a.sampled a.order c.requires.low c.requires.small c.requires.some (omega arith)) }

@@ -1,14 +1,11 @@
 -- How long lists are, and parts of them.
-use Rattle.std.proofs.Common.{◌≡◌, ℕ, zero, suc, ◌+◌, ◌*◌, ◌^◌, ◌<◌, ◌≤◌, min, List, [], ◌∷◌, length, take, sym, refl, ap, ◌∙◌, inl, inr, mul_comm, pow-suc, mul-one, mul-add, arith}
+use Rattle.std.proofs.Common.{◌≡◌, ℕ, zero, suc, ◌+◌, ◌*◌, ◌^◌, ◌<◌, ◌≤◌, List, [], ◌∷◌, length, refl, ap, ◌∙◌, inl, inr, mul_comm, pow-suc, mul-one, mul-add, arith}
 use native.Mathlib.Nat.{pow-le-pow_left, pow-le-pow_right, pow-zero}
-use Rattle.std.proofs.lemmas.List.{length-append, take_all}
+use Rattle.std.proofs.lemmas.List.{length-append}
 use Rattle.std.proofs.lemmas.Bool.{cases_lt}
-use Rattle.std.proofs.lemmas.Nat.{mul-le}
-use Rattle.bits.specs.CodeBits.{code_bits}
-use Rattle.packing.specs.Powers.{limbs, digits, GreatestPower}
+use Rattle.packing.specs.Powers.{digits, GreatestPower}
 use Rattle.packing.specs.PowerLaws.{greatest_is_greatest}
-use Rattle.packing.specs.Packing.{packed, split, spread}
-use Rattle.packing.specs.PackingLaws.{limbs-some, limbs-few, packed-length, groups-few}
+use Rattle.packing.specs.Packing.{split, spread}
 
 pub split-length : (base k w : ℕ) → length (split base k w) ≡ k
 split-length base zero w = refl
@@ -36,21 +33,3 @@ module _ (sampled order : ℕ) (low : 256 ≤ sampled) (less : sampled < order) 
             let wide : 256 ^ 8 ≤ sampled ^ 8 = pow-le-pow_left low 8 in
             absurd (omega (arith, up, wide, greatest.fits)))
       ]
-
--- the words of a batch fit the rate, and limbs times a rate is small
-module _ (sampled order : ℕ) (low : 2 ≤ sampled) (small : sampled ≤ 4294967296) (less : sampled < order) (high : order < 2 ^ 64) where
-  pub words-few : (rate : ℕ) (p words : List ℕ) → words ≡ packed (code_bits sampled) (limbs sampled order) p → length p ≤ limbs sampled order * rate → length words ≤ rate
-  words-few rate p words e room =
-      let n = limbs sampled order in
-      let some = limbs-some sampled order low small less high in
-      omega (arith, ap length e, packed-length n some (code_bits sampled) p, groups-few n some rate p room)
-
-  pub product_small : (size rate : ℕ) → size ≡ limbs sampled order → rate ≤ 64 → size * rate ≤ 4096
-  product_small size rate e r = mul-le size rate 64 64 (omega (arith, e, limbs-few sampled order low small less high)) r
-
-pub take_smaller : (n m : ℕ) (xs : List ℕ) → m ≡ min n (length xs) → take m xs ≡ take n xs
-take_smaller n m xs e =
-    elim (cases_lt n (length xs)) [
-      | inl l ↦ (let q : m ≡ n = omega arith in ap (λ k. take k xs) q)
-      | inr g ↦ take_all m xs (omega arith) ∙ sym (take_all n xs g)
-    ]

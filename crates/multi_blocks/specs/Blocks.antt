@@ -1,12 +1,7 @@
 -- Words absorbed in groups of RATE, and outputs, on what a sponge holds. Assumes nothing.
 use Rattle.std.specs.Prelude.{ℕ, zero, suc, cond, List, length, ◌==◌}
-use Rattle.domain.specs.Arithmetic.{Arithmetic}
 use Rattle.sponge.specs.Sponge.{SpongeMake, SpongeState, block_turn, empty_turn}
 use Rattle.packing.specs.Packing.{group}
-
--- what making fixes, from the domain's arithmetic, the permutation's image, and WIDTH and RATE
-abbrev pub making : {order : ℕ} → Arithmetic order → (List ℕ → List ℕ) → ℕ × ℕ → SpongeMake order
-making d image p = record { arithmetic = d; image = image; width = p.0; rate = p.1 }
 
 module _ {order : ℕ} (k : SpongeMake order) where
   -- a turn with no block, if no output is left

@@ -1,19 +1,17 @@
 // Blocks of scalars and of words.
-ghost use Rattle.std.specs.Prelude.{◌≡◌, ◌*◌, ◌<◌, ◌≤◌, true, [], length};
+ghost use Rattle.std.specs.Prelude.{◌≡◌, ◌*◌, ◌≤◌, true, [], length};
+ghost use Rattle.domain.specs.Codes.{all_codes};
 ghost use Rattle.buffer.specs.Items.{items};
-ghost use Rattle.sponge.specs.CodesBlock.{all_codes};
 ghost use Rattle.sponge.specs.Sponge.{block_turn};
-ghost use Rattle.sponge.specs.SpongeHeld.{held as sponge_held};
+ghost use Rattle.sponge.specs.SpongeHeld.{held as sponge_held, making, SameMake};
 ghost use Rattle.bits.specs.CodeBits.{code_bits};
 ghost use Rattle.packing.specs.Powers.{limbs};
-ghost use Rattle.packing.specs.Packing.{packed, group, groups};
+ghost use Rattle.packing.specs.Packing.{packed, groups};
 ghost use Rattle.multi_blocks.specs.Blocks.{absorbing};
-ghost use Rattle.multi_blocks.specs.Blocks.{making};
 
-use crate::Numbers;
 use buffer::Buffer;
 use domain::Domain;
-use packing::{pack_all, smaller};
+use packing::Numbers;
 use permutation::CryptographicPermutation;
 use sponge::Sponge;
 
@@ -24,53 +22,31 @@ pub fn flush<
     const SAMPLED: u64,
     const ORDER: u64,
 >(
-    permutation: &P,
     numbers: &Numbers<SAMPLED, ORDER>,
-    sponge: &mut Sponge<ORDER>,
+    sponge: &mut Sponge<D, P, ORDER>,
     pending: &mut Buffer<SAMPLED, 255>,
 )
     requires room { length (items pending.old) ≤ numbers.now.limbs * sponge.old.rate }
-    ensures state { sponge_held sponge.new ≡ block_turn (making D.Domain.arithmetic (P.CryptographicPermutation.image permutation.now) (sponge.old.width, sponge.old.rate)) (sponge_held sponge.old).row (packed (code_bits SAMPLED) (limbs SAMPLED ORDER) (items pending.old)) (length (items pending.old)) }
+    ensures state { sponge_held sponge.new ≡ block_turn (making sponge.old) (sponge_held sponge.old).row (packed (code_bits SAMPLED) (limbs SAMPLED ORDER) (items pending.old)) (length (items pending.old)) }
     ensures emptied { items pending.new ≡ [] }
-    ensures width { sponge.new.width ≡ sponge.old.width }
-    ensures rate { sponge.new.rate ≡ sponge.old.rate }
+    ensures make { SameMake sponge.new sponge.old }
 {
-    let mut words = Buffer::<ORDER, 64>::zeros(0);
-    pack_all::<SAMPLED, ORDER>(&mut words, pending, numbers.radix, numbers.limbs);
-    sponge.absorb::<D, P>(permutation, &words, pending.len() as u64);
+    let mut words = Buffer::zeros(0);
+    numbers.pack_all(&mut words, pending);
+    sponge.absorb(&words, pending.len() as u64);
     pending.clear();
-}
-
-/// Group `i` of the words, at most `rate` of them.
-fn fill_block<const ORDER: u64>(block: &mut Buffer<ORDER, 64>, words: &[u64], rate: usize, i: usize)
-    requires codes { all_codes ORDER words.now ≡ true }
-    requires some { 1 ≤ rate }
-    requires few { rate ≤ 63 }
-    requires inside { i < groups rate words.now }
-    ensures { items block.new ≡ group rate words.now i }
-{
-    block.clear();
-    let start = i * rate;
-    for j in 0..smaller(rate, words.len() - start) {
-        block.push(words[start + j]);
-    }
 }
 
 /// Absorbs the words in groups of the rate, each a block tagged by the number of its words.
 pub fn absorb_words<D: Domain<ORDER>, P: CryptographicPermutation<D, ORDER>, const ORDER: u64>(
-    permutation: &P,
-    sponge: &mut Sponge<ORDER>,
+    sponge: &mut Sponge<D, P, ORDER>,
     words: &[u64],
 )
     requires codes { all_codes ORDER words.now ≡ true }
-    ensures state { sponge_held sponge.new ≡ absorbing (making D.Domain.arithmetic (P.CryptographicPermutation.image permutation.now) (sponge.old.width, sponge.old.rate)) (sponge_held sponge.old) words.now (groups sponge.old.rate words.now) }
-    ensures width { sponge.new.width ≡ sponge.old.width }
-    ensures rate { sponge.new.rate ≡ sponge.old.rate }
+    ensures state { sponge_held sponge.new ≡ absorbing (making sponge.old) (sponge_held sponge.old) words.now (groups sponge.old.rate words.now) }
+    ensures make { SameMake sponge.new sponge.old }
 {
-    let rate = sponge.rate();
-    let mut block = Buffer::<ORDER, 64>::zeros(0);
-    for i in 0..(words.len() + (rate - 1)) / rate {
-        fill_block(&mut block, words, rate, i);
-        sponge.absorb::<D, P>(permutation, &block, block.len() as u64);
+    for group in words.chunks(sponge.rate()) {
+        sponge.absorb(&Buffer::from_slice(group), group.len() as u64);
     }
 }

@@ -1,27 +1,8 @@
 //! The blocks of a multi-field challenger, of scalars and of words, and its outputs split into scalars.
 #![tactic(auto)]
 
-ghost use Rattle.std.specs.Prelude.{◌≡◌, ◌^◌, ◌<◌, ◌≤◌};
-ghost use Rattle.bits.specs.CodeBits.{code_bits};
-ghost use Rattle.packing.specs.Powers.{limbs as limbs_of, digits as digits_of};
-
 mod absorbing;
-mod pair;
 mod squeezing;
 
 pub use absorbing::{absorb_words, flush};
 pub use squeezing::{refill, split_all};
-
-/// The numbers of a pair of domains: the radix, how many scalars a word takes, and how many it gives.
-#[derive(Clone, Copy)]
-pub struct Numbers<const SAMPLED: u64, const ORDER: u64> {
-    radix: u64,
-    limbs: usize,
-    digits: usize,
-    ghost low: { 256 ≤ SAMPLED },
-    ghost small: { SAMPLED ≤ 4294967296 },
-    ghost less: { SAMPLED < ORDER },
-    ghost radixed: { radix ≡ 2 ^ code_bits SAMPLED },
-    ghost sized: { limbs ≡ limbs_of SAMPLED ORDER },
-    ghost split: { digits ≡ digits_of SAMPLED ORDER },
-}

@@ -8,8 +8,8 @@ use Rattle.runs.specs.Answers.{as_done, as_bits, as_checked, as_ground, answered
 use Rattle.runs.specs.Runs.{Rule, ChecksStand}
 use Rattle.runs.specs.RunLaws.{checks_stand}
 use Rattle.sponge.specs.Sponge.{SpongeMake}
-use Rattle.multi_state.specs.declared.held.MultiHeld.{MultiHeld}
-use Rattle.multi_state.specs.Rules.{observed, digest_observed, sample_of, drawing, means}
+use Rattle.multi_field.specs.declared.held.MultiHeld.{MultiHeld}
+use Rattle.multi_field.specs.Rules.{observed, digest_observed, sample_of, drawing, means}
 
 module _ {order : ℕ} (sampled : ℕ) (k : SpongeMake order) where
   -- what each call says and leaves; it has no uniform bits

@@ -1,45 +1,56 @@
-use Rattle.std.proofs.Common.{◌≡◌, length, ap, ◌∙◌, arith, lit<}
+use Rattle.std.proofs.Common.{◌≡◌, ◌*◌, ◌≤◌, length, drop, sym, subst, ap, ◌∙◌, arith, lit<, lit≤}
+use Rattle.std.specs.Slice.Iter.{chunks_rest, chunks_size}
+use Rattle.std.proofs.lemmas.List.{length_push}
 use Rattle.buffer.specs.Items.{items}
+use Rattle.permutation.specs.Rows.{Codes}
+use Rattle.sponge.specs.CodesBlockLaws.{all_codes-codes}
 use Rattle.sponge.specs.Sponge.{block_turn}
-use Rattle.sponge.specs.SpongeHeld as sponge
-use Rattle.packing.specs.Packing.{groups}
-use Rattle.packing.specs.PackingLaws.{group-length}
-use Rattle.multi_blocks.specs.Blocks.{making, absorbing}
-use Rattle.multi_blocks.proofs.Turns.{same_shape, block_more}
+use Rattle.sponge.specs.SpongeHeld.{held, making}
+use Rattle.sponge.proofs.Turning.{rate_small}
+use Rattle.packing.specs.PackingLaws.{group-length, group-codes}
+use Rattle.packing.proofs.Groups.{piece_more, piece_end}
+use Rattle.multi_blocks.specs.Blocks.{absorbing}
+use Rattle.multi_blocks.proofs.Turns.{same_making, block_more}
 use Rattle.multi_blocks.proofs.absorbing.absorb_words.Goals as goal
 
-pub fill_block-requires : goal.fill_block-requires
-fill_block-requires g c = (lit< tt, (c.requires.codes, (c.rate-rate.ensures.some, (c.rate-rate.ensures.few, c.loop-i-test.true))))
-
-pub absorb-requires : goal.absorb-requires
-absorb-requires g c =
-    let l = ap length c.fill_block.ensures ∙ group-length c.rate-rate.result c.rate-rate.ensures.some c.args.words.now c.loop-i.i in
-    (lit< tt, (lit< tt, (omega (arith, l, c.rate-rate.ensures.value, c.loop-i.invariant.1), omega (arith, l, c.len.ensures, c.rate-rate.ensures.few))))
-
-pub loop-i-preserved : goal.loop-i-preserved
-loop-i-preserved g c =
-    let d = g.D.Domain.arithmetic in
-    let image = g.P.CryptographicPermutation.image c.args.permutation.now in
+pub from_slice-requires : goal.from_slice-requires
+from_slice-requires g c =
     let s = c.args.sponge.now in
-    let k = making d image (s.width, s.rate) in
-    let t = c.loop-i.sponge in
-    let inv = c.loop-i.invariant in
-    let turn = c.absorb.ensures.state
-    ∙ ap (λ p. block_turn (making d image p) (sponge.held t).row (items c.fill_block.new.block) c.len.result) (same_shape inv.0 inv.1) in (
-      c.absorb.ensures.width ∙ inv.0,
-      c.absorb.ensures.rate ∙ inv.1,
-      block_more k (sponge.held s) (sponge.held t) _ c.args.words.now _ c.loop-i.i c.rate-rate.result c.len.result
-          c.rate-rate.ensures.value inv.2 c.fill_block.ensures c.len.ensures turn,
+    let ws = c.args.words.now in
+    let l = c.loop-group in
+    let i = length l.yielded in
+    let t = piece_more s.rate s.some ws i _ _ c.in-Some.group.now (chunks_rest c.next.new.self) l.invariant.2 l.invariant.3 c.in-Some.ensures.steps.1 in (
+      lit< tt,
+      (
+        omega (arith, ap length t.0, group-length s.rate s.some ws i, rate_small s),
+        (lit≤ tt, subst (Codes g.row.ORDER) (sym t.0) (group-codes s.rate s.some g.row.ORDER ws i (all_codes-codes g.row.ORDER ws c.requires.codes))),
+      ),
     )
 
-pub returns : goal.returns
-returns g c =
+pub loop-group-preserved : goal.loop-group-preserved
+loop-group-preserved g c =
     let s = c.args.sponge.now in
-    let k = making g.D.Domain.arithmetic (g.P.CryptographicPermutation.image c.args.permutation.now) (s.width, s.rate) in
     let ws = c.args.words.now in
-    let done : c.loop-i.i ≡ groups c.rate-rate.result ws = omega (arith, c.loop-i-test.false, c.loop-i.auto.i-end) in
-    record {
-      state = c.loop-i.invariant.2 ∙ ap (absorbing k (sponge.held s) ws) (done ∙ ap (λ r. groups r ws) c.rate-rate.ensures.value);
-      width = c.loop-i.invariant.0;
-      rate = c.loop-i.invariant.1;
-    }
+    let k = making s in
+    let l = c.loop-group in
+    let i = length l.yielded in
+    let more = length_push l.yielded c.in-Some.group in
+    let size : chunks_size c.next.new.self ≡ s.rate = c.in-Some.ensures.steps.0 ∙ l.invariant.2 in
+    let t = piece_more s.rate s.some ws i _ _ c.in-Some.group.now (chunks_rest c.next.new.self) l.invariant.2 l.invariant.3 c.in-Some.ensures.steps.1 in
+    let make = l.invariant.5 in
+    let turn = c.absorb.ensures.state ∙ ap (λ m. block_turn m (held l.sponge).row (items c.from_slice.result) (length c.in-Some.group.now)) (same_making make) in (
+      omega (arith, size, s.some),
+      tt,
+      size,
+      t.1 ∙ ap (λ n. drop (n * s.rate) ws) (sym more),
+      omega (arith, t.2, more),
+      record { permutation = c.absorb.ensures.make.permutation ∙ make.permutation; width = c.absorb.ensures.make.width ∙ make.width; rate = c.absorb.ensures.make.rate ∙ make.rate },
+      block_more k (held s) (held l.sponge) _ ws _ _ i l.invariant.6 t.0 c.from_slice.ensures turn ∙ ap (absorbing k (held s) ws) (sym more),
+    )
+
+pub returns-clause-state : goal.returns-clause-state
+returns-clause-state g c =
+    let s = c.args.sponge.now in
+    let ws = c.args.words.now in
+    let l = c.loop-group in
+    l.invariant.6 ∙ ap (absorbing (making s) (held s) ws) (piece_end s.rate s.some ws (length l.yielded) _ l.invariant.3 c.in-None.ensures.steps.1.0 l.invariant.4)

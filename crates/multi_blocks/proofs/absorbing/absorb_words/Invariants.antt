@@ -1,10 +1,18 @@
-use Rattle.std.proofs.Common.{◌≡◌}
-use Rattle.sponge.specs.SpongeHeld as sponge
-use Rattle.multi_blocks.specs.Blocks.{making, absorbing}
+use Rattle.std.proofs.Common.{◌≡◌, ◌*◌, ◌≤◌, length, drop}
+use Rattle.std.specs.Slice.Iter.{chunks_rest, chunks_size}
+use Rattle.sponge.specs.SpongeHeld.{held, making, SameMake}
+use Rattle.packing.specs.Packing.{groups}
+use Rattle.multi_blocks.specs.Blocks.{absorbing}
 use Rattle.multi_blocks.proofs.absorbing.absorb_words.Given as goal
 
-abbrev pub invariant-loop-i : goal.invariant-loop-i
-invariant-loop-i g l =
-    let k = making g.D.Domain.arithmetic (g.P.CryptographicPermutation.image l.permutation) (l.initial.sponge.width, l.initial.sponge.rate) in
-    (l.sponge.width ≡ l.initial.sponge.width) × (l.sponge.rate ≡ l.initial.sponge.rate)
-    × (sponge.held l.sponge ≡ absorbing k (sponge.held l.initial.sponge) l.words l.i)
+abbrev pub invariant-loop-group : goal.invariant-loop-group
+invariant-loop-group g l =
+    let s = l.initial.sponge in
+    let i = length l.yielded in
+    (goal.iterator-loop-group g).can_next l.group-iterator
+    × (goal.iterator-loop-group g).is_finite l.group-iterator
+    × (chunks_size l.group-iterator ≡ s.rate)
+    × (chunks_rest l.group-iterator ≡ drop (i * s.rate) l.words)
+    × (i ≤ groups s.rate l.words)
+    × SameMake l.sponge s
+    × (held l.sponge ≡ absorbing (making s) (held s) l.words i)

@@ -1,0 +1,34 @@
+// Checking and grinding.
+use crate::MultiField32Challenger;
+use domain::Domain;
+use interface::{CanStartCheck, GrindingChallenger, check_by_parts, grind_by_trial};
+use permutation::CryptographicPermutation;
+use refusal::Refusal;
+
+impl<
+    F: Domain<SAMPLED>,
+    D: Domain<ORDER>,
+    P: CryptographicPermutation<D, ORDER>,
+    const SAMPLED: u64,
+    const ORDER: u64,
+> CanStartCheck for MultiField32Challenger<F, D, P, SAMPLED, ORDER> {
+    ghost started = { λ m h. h };
+
+    fn start_check(&mut self) {}
+}
+
+impl<
+    F: Domain<SAMPLED> + Copy,
+    D: Domain<ORDER> + Copy,
+    P: CryptographicPermutation<D, ORDER> + Copy,
+    const SAMPLED: u64,
+    const ORDER: u64,
+> GrindingChallenger for MultiField32Challenger<F, D, P, SAMPLED, ORDER> {
+    fn check_witness(&mut self, bits: u64, witness: u64) -> Result<bool, Refusal> {
+        check_by_parts(self, bits, witness)
+    }
+
+    fn grind(&mut self, bits: u64, budget: u64) -> Result<(u64, u64), Refusal> {
+        grind_by_trial(self, bits, budget)
+    }
+}

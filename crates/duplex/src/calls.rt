@@ -6,7 +6,6 @@ use crate::DuplexChallenger;
 use domain::Domain;
 use interface::{CanObserve, CanSampleBits, GrindingChallenger};
 use permutation::CryptographicPermutation;
-use runs::call::{as_bits, as_checked, as_done, as_ground};
 use runs::{Answer, Call, Challenger};
 
 impl<
@@ -20,13 +19,26 @@ impl<
 
     fn call(&mut self, call: &Call) -> Answer {
         match call {
-            Call::Observe(codes) => as_done(self.observe(codes)),
-            Call::ObserveDigest(codes) => as_done(self.observe_digest(codes)),
+            Call::Observe(codes) => self
+                .observe(codes)
+                .map_or_else(Answer::Refused, |()| Answer::Done),
+            Call::ObserveDigest(codes) => self
+                .observe_digest(codes)
+                .map_or_else(Answer::Refused, |()| Answer::Done),
             Call::Sample => Answer::Code(self.sample()),
-            Call::SampleBits(bits) => as_bits(self.sample_bits(*bits)),
-            Call::UniformBits(bits, limit) => as_bits(self.sample_uniform_bits(*bits, *limit)),
-            Call::CheckWitness(bits, witness) => as_checked(self.check_witness(*bits, *witness)),
-            Call::Grind(bits, budget) => as_ground(self.grind(*bits, *budget)),
+            Call::SampleBits(bits) => self
+                .sample_bits(*bits)
+                .map_or_else(Answer::Refused, Answer::Bits),
+            Call::UniformBits(bits, limit) => self
+                .sample_uniform_bits(*bits, *limit)
+                .map_or_else(Answer::Refused, Answer::Bits),
+            Call::CheckWitness(bits, witness) => self
+                .check_witness(*bits, *witness)
+                .map_or_else(Answer::Refused, Answer::Checked),
+            Call::Grind(bits, budget) => self.grind(*bits, *budget).map_or_else(
+                Answer::Refused,
+                |(witness, trials)| Answer::Ground(witness, trials),
+            ),
         }
     }
 }

@@ -6,7 +6,6 @@ use crate::MultiField32Challenger;
 use domain::Domain;
 use interface::{CanObserve, CanSampleBits, GrindingChallenger};
 use permutation::CryptographicPermutation;
-use runs::call::{as_bits, as_checked, as_done, as_ground};
 use runs::{Answer, Call, Challenger};
 
 impl<
@@ -22,12 +21,22 @@ impl<
 
     fn call(&mut self, call: &Call) -> Answer {
         match call {
-            Call::Observe(codes) => as_done(self.observe(codes)),
-            Call::ObserveDigest(words) => as_done(self.observe_digest(words)),
+            Call::Observe(codes) => self
+                .observe(codes)
+                .map_or_else(Answer::Refused, |()| Answer::Done),
+            Call::ObserveDigest(words) => self
+                .observe_digest(words)
+                .map_or_else(Answer::Refused, |()| Answer::Done),
             Call::Sample => Answer::Code(self.sample()),
-            Call::SampleBits(bits) => as_bits(self.sample_bits(*bits)),
-            Call::CheckWitness(bits, witness) => as_checked(self.check_witness(*bits, *witness)),
-            Call::Grind(bits, budget) => as_ground(self.grind(*bits, *budget)),
+            Call::SampleBits(bits) => self
+                .sample_bits(*bits)
+                .map_or_else(Answer::Refused, Answer::Bits),
+            Call::CheckWitness(bits, witness) => self
+                .check_witness(*bits, *witness)
+                .map_or_else(Answer::Refused, Answer::Checked),
+            Call::Grind(bits, budget) => self
+                .grind(*bits, *budget)
+                .map_or_else(Answer::Refused, |(witness, trials)| Answer::Ground(witness, trials)),
             _ => Answer::Absent,
         }
     }

@@ -1,7 +1,4 @@
 // The calls of a challenger, and what a call answers.
-ghost use Rattle.std.specs.Prelude.{◌≡◌};
-ghost use Rattle.runs.specs.Answers.{as_done, as_code, as_bits, as_checked, as_ground};
-
 use refusal::Refusal;
 
 /// One call.
@@ -32,49 +29,4 @@ pub enum Answer {
     Refused(Refusal),
     /// The challenger has no such call.
     Absent,
-}
-
-pub fn as_done(r: Result<(), Refusal>) -> Answer
-    ensures { result ≡ as_done r }
-{
-    match r {
-        Ok(()) => Answer::Done,
-        Err(e) => Answer::Refused(e),
-    }
-}
-
-pub fn as_code(r: Result<u64, Refusal>) -> Answer
-    ensures { result ≡ as_code r }
-{
-    match r {
-        Ok(x) => Answer::Code(x),
-        Err(e) => Answer::Refused(e),
-    }
-}
-
-pub fn as_bits(r: Result<u64, Refusal>) -> Answer
-    ensures { result ≡ as_bits r }
-{
-    match r {
-        Ok(x) => Answer::Bits(x),
-        Err(e) => Answer::Refused(e),
-    }
-}
-
-pub fn as_checked(r: Result<bool, Refusal>) -> Answer
-    ensures { result ≡ as_checked r }
-{
-    match r {
-        Ok(v) => Answer::Checked(v),
-        Err(e) => Answer::Refused(e),
-    }
-}
-
-pub fn as_ground(r: Result<(u64, u64), Refusal>) -> Answer
-    ensures { result ≡ as_ground r }
-{
-    match r {
-        Ok((witness, trials)) => Answer::Ground(witness, trials),
-        Err(e) => Answer::Refused(e),
-    }
 }

@@ -12,6 +12,7 @@ pub fn prove_run<C: Challenger>(c: &mut C, calls: &[Call], said: &mut [Answer])
     ensures run { Run (C.Challenger.rule (C.Holding.make c.old)) (C.Holding.held c.old) calls.now said.new (C.Holding.held c.new) }
     ensures make { C.Holding.make c.new ≡ C.Holding.make c.old }
 {
+    // Kept as an index: nothing is known of places that were written behind `iter_mut().zip(..)`.
     for (i, call) in calls.iter().enumerate() {
         said[i] = c.call(call);
     }
@@ -44,13 +45,10 @@ pub fn verify_run<C: Challenger>(
     ensures make { C.Holding.make c.new ≡ C.Holding.make c.old }
 {
     let mut n = 0;
-    for (i, call) in calls.iter().enumerate() {
-        match instead(call, &proved[i]) {
-            Some(again) => {
-                said[n] = c.call(&again);
-                n += 1;
-            }
-            None => {}
+    for (call, answer) in calls.iter().zip(proved) {
+        if let Some(again) = instead(call, answer) {
+            said[n] = c.call(&again);
+            n += 1;
         }
     }
     n

@@ -6,7 +6,6 @@ ghost use Rattle.serializing.specs.Calls.{rule as rule_of, stands as checks_stan
 use crate::SerializingChallenger32;
 use domain::Domain;
 use interface::{CanObserve, CanSampleBits, GrindingChallenger, Holding};
-use runs::call::{as_bits, as_checked, as_done, as_ground};
 use runs::{Answer, Call, Challenger};
 use transcript::{ByteGrindingChallenger, ByteTranscript};
 
@@ -18,13 +17,25 @@ impl<D: Domain<ORDER> + Copy, T: ByteGrindingChallenger + Copy, const ORDER: u64
 
     fn call(&mut self, call: &Call) -> Answer {
         match call {
-            Call::Observe(codes) => as_done(self.observe(codes)),
-            Call::ObserveDigest(words) => as_done(self.observe_digest_words(words)),
+            Call::Observe(codes) => self
+                .observe(codes)
+                .map_or_else(Answer::Refused, |()| Answer::Done),
+            Call::ObserveDigest(words) => self
+                .observe_digest_words(words)
+                .map_or_else(Answer::Refused, |()| Answer::Done),
             Call::Sample => Answer::Absent,
-            Call::SampleBits(bits) => as_bits(self.sample_bits(*bits)),
-            Call::UniformBits(bits, limit) => as_bits(self.sample_uniform_bits(*bits, *limit)),
-            Call::CheckWitness(bits, witness) => as_checked(self.check_witness(*bits, *witness)),
-            Call::Grind(bits, budget) => as_ground(self.grind(*bits, *budget)),
+            Call::SampleBits(bits) => self
+                .sample_bits(*bits)
+                .map_or_else(Answer::Refused, Answer::Bits),
+            Call::UniformBits(bits, limit) => self
+                .sample_uniform_bits(*bits, *limit)
+                .map_or_else(Answer::Refused, Answer::Bits),
+            Call::CheckWitness(bits, witness) => self
+                .check_witness(*bits, *witness)
+                .map_or_else(Answer::Refused, Answer::Checked),
+            Call::Grind(bits, budget) => self
+                .grind(*bits, *budget)
+                .map_or_else(Answer::Refused, |(witness, trials)| Answer::Ground(witness, trials)),
         }
     }
 }

@@ -1,6 +1,6 @@
 ghost use Rattle.std.specs.Prelude.{◌≡◌, ℕ, Bool, List};
 ghost use Rattle.interface.specs.Meaning.{Does, few_bits};
-ghost use Rattle.interface.specs.Grinding.{at_make, yes, check_of, grind_of, LeastWitness};
+ghost use Rattle.interface.specs.Grinding.{at_make, check_of, grind_of, LeastWitness};
 
 use crate::{CanObserve, CanSampleBits, CanStartCheck};
 use refusal::Refusal;
@@ -13,6 +13,7 @@ pub fn few_bits(order: u64, bits: u64) -> bool
 }
 
 /// A check from its parts: the start, the observed witness, the drawn bits.
+#[tactic(auto, unfolding(crate::specs::Grinding::check_of))]
 pub fn check_by_parts<C: CanObserve + CanSampleBits + CanStartCheck + Copy>(
     c: &mut C,
     bits: u64,
@@ -38,16 +39,8 @@ pub fn check_by_parts<C: CanObserve + CanSampleBits + CanStartCheck + Copy>(
     Ok(drawn == 0)
 }
 
-fn says_yes(r: Result<bool, Refusal>) -> bool
-    ensures { result ≡ yes r }
-{
-    match r {
-        Ok(v) => v,
-        Err(_) => false,
-    }
-}
-
 /// The search that any challenger may use: each candidate is checked on a copy.
+#[tactic(auto, unfolding(crate::specs::Grinding::grind_of))]
 pub fn grind_by_trial<C: CanObserve + CanSampleBits + CanStartCheck + Copy>(
     c: &mut C,
     bits: u64,
@@ -68,8 +61,7 @@ pub fn grind_by_trial<C: CanObserve + CanSampleBits + CanStartCheck + Copy>(
     }
     for w in 0..budget {
         let mut trial = *c;
-        let accepted = says_yes(check_by_parts(&mut trial, bits, w));
-        if accepted {
+        if check_by_parts(&mut trial, bits, w).unwrap_or(false) {
             *c = trial;
             return Ok((w, w + 1));
         }

@@ -33,9 +33,10 @@ impl<D: Domain<ORDER> + Copy, T: ByteGrindingChallenger + Copy, const ORDER: u64
             Call::CheckWitness(bits, witness) => self
                 .check_witness(*bits, *witness)
                 .map_or_else(Answer::Refused, Answer::Checked),
-            Call::Grind(bits, budget) => self
-                .grind(*bits, *budget)
-                .map_or_else(Answer::Refused, |(witness, trials)| Answer::Ground(witness, trials)),
+            Call::Grind(bits, budget) => self.grind(*bits, *budget).map_or_else(
+                Answer::Refused,
+                |(witness, trials)| Answer::Ground(witness, trials),
+            ),
         }
     }
 }

@@ -127,10 +127,7 @@ impl<D: Domain<ORDER>, T: ByteTranscript, const ORDER: u64> SerializingChallenge
         if !some_draws(limit) {
             return Err(Refusal::DrawLimit);
         }
-        match draw_below(self, ORDER, limit - 1) {
-            Ok(code) => Ok(code),
-            Err((value, bound)) => Err(Refusal::NoDraw(value, bound)),
-        }
+        draw_below(self, ORDER, limit - 1).map_err(|(value, bound)| Refusal::NoDraw(value, bound))
     }
 
     /// The low bits of one word, once the bits and the draw limit are in order.

@@ -19,11 +19,7 @@ fn passing<T: ByteTranscript + Copy>(transcript: &T, candidate: u32, mask: u64) 
 pub fn counted(candidates: u64) -> u64
     ensures { result ≡ candidates_of candidates }
 {
-    if candidates < 4294967296 {
-        candidates
-    } else {
-        4294967296
-    }
+    candidates.min(4294967296)
 }
 
 /// What any transcript may use: each candidate is tried on a copy.

@@ -28,19 +28,19 @@ fn join(low: u64, high: u64, bits: u64, more: u64) -> u64
 }
 
 /// The low bits of one bounded draw within the limit.
+#[tactic(auto, unfolding(crate::specs::Uniform::part_of))]
 fn draw_part<C: CanDraw>(c: &mut C, order: u64, bits: u64, limit: u64) -> Result<u64, (u64, u64)>
     requires few { bits < 64 }
     requires some { 1 ≤ limit }
     ensures does { Does C.Holding.make C.Holding.held c.old c.new result (part_of (C.CanDraw.drawn (C.Holding.make c.old)) order bits limit (C.Holding.held c.old)) }
     ensures below { IfOk result (λ v. v < 2 ^ bits) }
 {
-    match draw_below(c, sampling_bound(order, bits), limit - 1) {
-        Ok(value) => Ok(low_bits(value, bits)),
-        Err(last) => Err(last),
-    }
+    let value = draw_below(c, sampling_bound(order, bits), limit - 1)?;
+    Ok(low_bits(value, bits))
 }
 
 /// Up to `single` bits one part, above it the low half first and then the rest.
+#[tactic(auto, unfolding(crate::specs::Uniform::parts_of))]
 fn draw_parts<C: CanDraw>(
     c: &mut C,
     order: u64,
@@ -62,6 +62,7 @@ fn draw_parts<C: CanDraw>(
 }
 
 /// Bits without bias from codes of an order, each bounded draw within the limit; at bits 0 it gives 0 and moves nothing.
+#[tactic(auto, unfolding(crate::specs::Uniform::uniform_of))]
 pub fn uniform_bits<C: CanDraw>(
     c: &mut C,
     order: u64,
@@ -80,8 +81,7 @@ pub fn uniform_bits<C: CanDraw>(
     if !some_draws(limit) {
         return Err(Refusal::DrawLimit);
     }
-    match draw_parts(c, order, single, bits, limit) {
-        Ok(value) => Ok(value),
-        Err((value, bound)) => Err(Refusal::NoDraw(value, bound)),
-    }
+    draw_parts(c, order, single, bits, limit).map_err(|(value, bound)| Refusal::NoDraw(
+        value, bound,
+    ))
 }

@@ -120,6 +120,7 @@ impl<D: Domain<ORDER>, T: ByteTranscript, const ORDER: u64> SerializingChallenge
         observe_numbers(&mut self.inner, words, 8)
     }
 
+    #[tactic(auto, unfolding(crate::specs::Rules::sample_of))]
     /// A code: words are drawn until the kept bits of one are a code, within the draw limit.
     pub fn sample(&mut self, limit: u64) -> Result<u64, Refusal>
         ensures does { Does (λ s. T.Holding.make s.inner) (λ s. T.Holding.held s.inner) self.old self.new result (sample_of ORDER (T.ByteTranscript.meaning (T.Holding.make self.old.inner)) (T.Holding.held self.old.inner) limit) }
@@ -130,6 +131,7 @@ impl<D: Domain<ORDER>, T: ByteTranscript, const ORDER: u64> SerializingChallenge
         draw_below(self, ORDER, limit - 1).map_err(|(value, bound)| Refusal::NoDraw(value, bound))
     }
 
+    #[tactic(auto, unfolding(crate::specs::Rules::uniform_of))]
     /// The low bits of one word, once the bits and the draw limit are in order.
     pub fn sample_uniform_bits(&mut self, bits: u64, limit: u64) -> Result<u64, Refusal>
         ensures does { Does (λ s. T.Holding.make s.inner) (λ s. T.Holding.held s.inner) self.old self.new result (uniform_of ORDER (T.ByteTranscript.meaning (T.Holding.make self.old.inner)) (T.Holding.held self.old.inner) bits limit) }

@@ -14,6 +14,7 @@ use refusal::Refusal;
 use transcript::{ByteGrindingChallenger, ByteTranscript, draw_word};
 
 impl<D: Domain<ORDER>, T: ByteTranscript, const ORDER: u64> SerializingChallenger32<D, T, ORDER> {
+    #[tactic(auto, unfolding(interface::specs::Grinding::check_of))]
     /// Draws a byte and drops it, observes the witness, and says whether the bits drawn then are 0.
     pub fn check(&mut self, bits: u64, witness: u64) -> Result<bool, Refusal>
         ensures does { Does (λ s. T.Holding.make s.inner) (λ s. T.Holding.held s.inner) self.old self.new result (check_of (means ORDER (T.ByteTranscript.meaning (T.Holding.make self.old.inner))) (T.Holding.held self.old.inner) bits witness) }
@@ -40,6 +41,7 @@ impl<D: Domain<ORDER> + Copy, T: ByteGrindingChallenger + Copy, const ORDER: u64
         self.check(bits, witness)
     }
 
+    #[tactic(auto, unfolding(interface::specs::Grinding::grind_of))]
     fn grind(&mut self, bits: u64, budget: u64) -> Result<(u64, u64), Refusal> {
         if !few_bits(ORDER, bits) {
             return Err(Refusal::Bits);

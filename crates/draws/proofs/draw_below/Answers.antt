@@ -3,14 +3,6 @@ use Rattle.interface.proofs.Checks.{does_by, did}
 use Rattle.draws.proofs.Bounded.{draw_accept, draw_last, draw_again}
 use Rattle.draws.proofs.draw_below.Goals as goal
 
-pub returns-then-rest-eq0 : goal.returns-then-rest-eq0
-returns-then-rest-eq0 g c =
-    let drew = c.draw-value.ensures.does in
-    let inv = c.loop-value.invariant in
-    let h = g.C.Holding.held c.loop-value.c in
-    let is = ap (λ k. g.C.CanDraw.drawn k h) (sym inv.1) ∙ did drew in
-    record { does = does_by (sym inv.0 ∙ draw_last _ c.args.bound h _ _ is c.loop-value.rest c.if-rest-eq0.true c.if-value-bound.false) (drew.same_make ∙ inv.1) }
-
 pub loop-value-preserved : goal.loop-value-preserved
 loop-value-preserved g c =
     let drew = c.draw-value.ensures.does in

@@ -5,20 +5,6 @@ use Rattle.encoding.specs.Encoding.{low_bytes, encoded}
 use Rattle.encoding.proofs.Fitting.{length-low, puts-append, fits-first, fits-then}
 use Rattle.encoding.proofs.observing.put_numbers.Goals as goal
 
-pub put_number-requires : goal.put_number-requires
-put_number-requires g c =
-    let m = g.T.ByteTranscript.meaning (g.T.Holding.make c.args.transcript.now) in
-    let s = g.T.Holding.held c.loop-number.transcript in
-    let size = c.args.size in
-    let xs = c.args.numbers.now in
-    let i = c.loop-number.number-index in
-    let x = get_or xs i 0 in
-    let ok : fits m s (low_bytes size x ++ encoded size (drop (i + 1) xs)) ≡ true =
-    sym (at_drop_more (λ ys. fits m s (encoded size ys)) xs i 0 c.loop-number-test.true) ∙ c.loop-number.invariant.2 in
-    let one = length-low size c.requires.bytes x in
-    let room : size ≤ m.room s = omega (arith, fits-first m s (low_bytes size x) (encoded size (drop (i + 1) xs)) ok, one) in
-    record { bytes = c.requires.bytes; room = subst (λ k. size ≤ (g.T.ByteTranscript.meaning k).room s) (sym c.loop-number.invariant.0) room }
-
 pub loop-number-preserved : goal.loop-number-preserved
 loop-number-preserved g c =
     let m = g.T.ByteTranscript.meaning (g.T.Holding.make c.args.transcript.now) in
@@ -37,12 +23,3 @@ loop-number-preserved g c =
           ∙ sym (at_drop_more (λ ys. puts m s (encoded size ys)) xs i 0 c.loop-number-test.true) ∙ c.loop-number.invariant.1,
       ap (λ h. fits m h rest) is ∙ fits-then m s (low_bytes size x) rest ok,
     )
-
-pub returns : goal.returns
-returns g c =
-    let m = g.T.ByteTranscript.meaning (g.T.Holding.make c.args.transcript.now) in
-    let s = g.T.Holding.held c.loop-number.transcript in
-    record {
-      left = sym (at_drop_all (λ ys. puts m s (encoded c.args.size ys)) c.args.numbers.now c.loop-number.number-index c.loop-number-test.false) ∙ c.loop-number.invariant.1;
-      kept = c.loop-number.invariant.0;
-    }

@@ -19,14 +19,6 @@ take_set_in (suc n) [] i a = refl
 take_set_in (suc n) (x ∷ xs) zero a = refl
 take_set_in (suc n) (x ∷ xs) (suc i) a = ap (λ ys. x ∷ ys) (take_set_in n xs i a)
 
-pub codes-set : (order : ℕ) (xs : List ℕ) (i c : ℕ) → Codes order xs → c < order → Codes order (set xs i c)
-codes-set order xs i c h code k lt =
-    let inside : k < length xs = omega (arith, length-set xs i c) in
-    elim (cases_eq k i) [
-      | inl e ↦ (let q : get_or (set xs i c) k 0 ≡ c = rw e (get_or-set_same xs i c 0 (omega arith)) in rw q code)
-      | inr ne ↦ rw (get_or-set_other xs i k c 0 ne) (h k inside)
-    ]
-
 pub codes-append : (order : ℕ) (xs ys : List ℕ) → Codes order xs → Codes order ys → Codes order (xs ++ ys)
 codes-append order xs ys hx hy k lt =
     elim (cases_lt k (length xs)) [
@@ -34,40 +26,13 @@ codes-append order xs ys hx hy k lt =
       | inr g ↦ rw (get_or-append_right xs ys (length xs) k 0 refl g) (hy (k - length xs) (omega (arith, length-append xs ys)))
     ]
 
-codes-one : (order c : ℕ) → c < order → Codes order (c ∷ [])
-codes-one order c h zero lt = h
-codes-one order c h (suc k) lt = absurd (omega arith)
-
-pub codes_push : (order : ℕ) (xs : List ℕ) (c : ℕ) → Codes order xs → c < order → Codes order (xs ++ (c ∷ []))
-codes_push order xs c h hc = codes-append order xs (c ∷ []) h (codes-one order c hc)
-
 pub codes-drop : (order n : ℕ) (xs : List ℕ) → Codes order xs → Codes order (drop n xs)
 codes-drop order n xs h k lt = rw (get_or-drop n xs k 0) (h (n + k) (omega (arith, length-drop n xs)))
-
-pub codes-take : (order n : ℕ) (xs : List ℕ) → Codes order xs → Codes order (take n xs)
-codes-take order n xs h k lt =
-    let l : k < n = omega (arith, length-take n xs) in
-    rw (get_or-take n xs k 0 l) (h k (omega (arith, length-take n xs)))
 
 pub codes-zeros : (order n : ℕ) → (0 < n → 0 < order) → Codes order (replicate n 0)
 codes-zeros order n p k lt =
     let l : k < n = omega (arith, length-replicate {A = ℕ} n 0) in
     rw (get_or-replicate {A = ℕ} n k 0 0 l) (p (omega arith))
-
--- after the first cells of a buffer were permuted: `new` is what they hold now, `rest` the others
-module _ {order n : ℕ} (b : Buffer order n) (image : List ℕ → List ℕ) (lawful : Lawful order image) (row : Row order (items b))
-    (new : List ℕ) (e : new ≡ image (items b)) where
-  new_length : length new ≡ b.count
-  new_length = ap length e ∙ lawful.keeps_length (items b) row ∙ items-length b
-
-  pub permuted_front : (rest : List ℕ) → take b.count (new ++ rest) ≡ new
-  permuted_front rest = take_at new rest b.count new_length
-
-  pub permuted_length : (rest : List ℕ) → length rest ≡ length b.cells - b.count → length (new ++ rest) ≡ n
-  permuted_length rest h = omega (arith, length-append new rest, new_length, b.sized, b.within)
-
-  pub permuted_codes : (rest : List ℕ) → Codes order (take b.count (new ++ rest))
-  permuted_codes rest = rw (permuted_front rest) (rw e (lawful.keeps_codes (items b) row))
 
 -- after these words were written into the first cells of a buffer, and zeros after them up to `end`
 module _ {order n : ℕ} (b : Buffer order n) (words : List ℕ) (end : ℕ) (few : length words ≤ end) (inside : end ≤ b.count) where

@@ -1,6 +1,7 @@
 -- How long lists are, and parts of them.
-use Rattle.std.proofs.Common.{◌≡◌, ℕ, zero, suc, ◌+◌, ◌*◌, ◌^◌, ◌<◌, ◌≤◌, List, [], ◌∷◌, length, refl, ap, ◌∙◌, inl, inr, mul_comm, pow-suc, mul-one, mul-add, arith}
+use Rattle.std.proofs.Common.{◌≡◌, ℕ, zero, suc, ◌*◌, ◌^◌, ◌<◌, ◌≤◌, List, [], ◌∷◌, length, refl, ap, ◌∙◌, inl, inr, pow-suc, arith}
 use native.Mathlib.Nat.{pow-le-pow_left, pow-le-pow_right, pow-zero}
+use Rattle.std.proofs.Math.Nat.{suc-mul}
 use Rattle.std.proofs.lemmas.List.{length-append}
 use Rattle.std.proofs.lemmas.Bool.{cases_lt}
 use Rattle.packing.specs.Powers.{digits, GreatestPower}
@@ -14,8 +15,7 @@ split-length base (suc k) w = ap suc (split-length base k _)
 pub spread-length : (base k : ℕ) (ws : List ℕ) → length (spread base k ws) ≡ length ws * k
 spread-length base k [] = omega arith
 spread-length base k (w ∷ ws) =
-    let m : suc (length ws) * k ≡ k + length ws * k = mul_comm (suc (length ws)) k ∙ omega (arith, mul-add k (length ws) 1, mul-one k, mul_comm k (length ws)) in
-    length-append (split base k w) (spread base k ws) ∙ omega (arith, split-length base k w, spread-length base k ws, m)
+    length-append (split base k w) (spread base k ws) ∙ omega (arith, split-length base k w, spread-length base k ws, suc-mul (length ws) k)
 
 -- a word gives 1 to 7 scalars
 module _ (sampled order : ℕ) (low : 256 ≤ sampled) (less : sampled < order) (high : order < 2 ^ 64) where

@@ -1,7 +1,8 @@
 -- One group of scalars, packed from its end, and the groups of a list in turn. Assumes nothing.
-use Rattle.std.proofs.Common.{◌≡◌, ℕ, ◌+◌, ◌-◌, ◌*◌, ◌/◌, ◌^◌, ◌<◌, ◌≤◌, min, List, ◌++◌, length, get_or, take, drop, sym, ap, ◌∙◌, inl, inr, mul_comm, mul-add, mul-one, arith}
+use Rattle.std.proofs.Common.{◌≡◌, ℕ, ◌+◌, ◌-◌, ◌*◌, ◌/◌, ◌^◌, ◌<◌, ◌≤◌, min, List, ◌++◌, length, get_or, take, drop, sym, ap, ◌∙◌, inl, inr, arith}
 use Rattle.std.specs.Prelude.{reverse}
 use Rattle.std.proofs.Math.Seq.{take-append_seam, drop-append_seam}
+use Rattle.std.proofs.Math.Nat.{add-mul}
 use Rattle.std.proofs.lemmas.Bool.{cases_lt}
 use Rattle.std.proofs.lemmas.Nat.{div-mul-add}
 use Rattle.std.proofs.lemmas.List.{length-drop, length-reverse, get_or-drop, get_or-reverse, get_or_default, drop_all, drop-drop, at_drop_more, take_min, drop_min}
@@ -21,11 +22,6 @@ end_word sampled g k = pack (code_bits sampled) (drop (length g - k) g)
 module _ (sampled : ℕ) (g : List ℕ) where
   pub end_none : 0 ≡ end_word sampled g 0
   end_none = sym (ap (pack (code_bits sampled)) (drop_all (length g - 0) g (omega arith)) ∙ pack-none (code_bits sampled))
-
-  pub end_all : (k : ℕ) → k ≡ length (reverse g) → end_word sampled g k ≡ pack (code_bits sampled) g
-  end_all k e =
-      let z : length g - k ≡ 0 = omega (arith, e, length-reverse g) in
-      ap (λ n. pack (code_bits sampled) (drop n g)) z
 
   -- one scalar more, from the end
   pub end_more : (radix k x word : ℕ) → radix ≡ 2 ^ code_bits sampled → (k < length (reverse g)) × (x ≡ get_or (reverse g) k x)
@@ -55,7 +51,7 @@ module _ (n : ℕ) (some : 1 ≤ n) (all : List ℕ) where
       let m : length piece ≡ min n (length left) = p.1 ∙ ap (λ x. min x (length left)) s in
       let first : piece ≡ take n left = sym (take-append_seam piece rest) ∙ ap (take (length piece)) (sym p.0) ∙ ap (λ x. take x left) m ∙ take_min n left in
       let rests : rest ≡ drop n left = sym (drop-append_seam piece rest) ∙ ap (drop (length piece)) (sym p.0) ∙ ap (λ x. drop x left) m ∙ drop_min n left in
-      let next : i * n + n ≡ (i + 1) * n = sym (mul_comm (i + 1) n ∙ mul-add n i 1 ∙ ap (λ x. n * i + x) (mul-one n) ∙ ap (λ x. x + n) (mul_comm n i)) in
+      let next : i * n + n ≡ (i + 1) * n = omega (arith, add-mul i 1 n) in
       let here : i * n + 0 < length all = omega (arith, ap length l, length-drop (i * n) all, p.2) in
       let at : (i * n + 0) / n ≡ i = div-mul-add i n 0 some in (
         first ∙ ap (take n) l,

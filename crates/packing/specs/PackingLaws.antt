@@ -2,7 +2,7 @@
 use Rattle.std.specs.Prelude.{◌≡◌, ℕ, suc, ◌+◌, ◌-◌, ◌*◌, ◌/◌, ◌%◌, ◌^◌, ◌<◌, ◌≤◌, min, List, [], ◌∷◌, length, drop, slice_index, slice_index_or, refl}
 use Rattle.std.proofs.Common.{sym, ap, ◌∙◌, mul-zero, mul-add, mul_assoc, mul_comm, mul-one, mod-lt, lt_of_mul-lt-mul_right, pow-add, lit<}
 use Rattle.std.proofs.Math.Logic.{inl, inr}
-use Rattle.std.proofs.Math.Nat.{pow-le-pow_right, pow-zero, pow-succ'}
+use Rattle.std.proofs.Math.Nat.{add-mul, pow-le-pow_right, pow-zero, pow-succ'}
 use native.Mathlib.Omega.{arith}
 use Rattle.std.proofs.lemmas.List.{length-take, length-drop, get_or-take, get_or-drop, ext_get_or}
 use Rattle.std.proofs.lemmas.List.FromFn.{length-map-range_with_len, get_or-map-range_with_len}
@@ -19,11 +19,7 @@ weighed_more : (b j : ℕ) (vs : List ℕ) → weighed b (j + 1) vs ≡ weighed 
 weighed_more b j [] = omega arith
 weighed_more b j (v ∷ vs) =
     let p : 2 ^ (b * (j + 1)) ≡ 2 ^ (b * j) * 2 ^ b = ap (λ n. 2 ^ n) (mul-add b j 1 ∙ ap (λ n. b * j + n) (mul-one b)) ∙ pow-add 2 (b * j) b in
-    let x = 2 ^ (b * j) in
-    let q : v * (x * 2 ^ b) ≡ v * x * 2 ^ b = sym (mul_assoc v x (2 ^ b)) in
-    ap (λ n. v * n + weighed b (j + 1 + 1) vs) p ∙ ap (λ n. n + weighed b (j + 1 + 1) vs) q ∙ ap (λ n. v * x * 2 ^ b + n) (weighed_more b (j + 1) vs)
-    ∙ sym (mul_comm (v * x + weighed b (j + 1) vs) (2 ^ b) ∙ mul-add (2 ^ b) (v * x) (weighed b (j + 1) vs)
-    ∙ ap (λ n. n + 2 ^ b * weighed b (j + 1) vs) (mul_comm (2 ^ b) (v * x)) ∙ ap (λ n. v * x * 2 ^ b + n) (mul_comm (2 ^ b) (weighed b (j + 1) vs)))
+    omega (arith, ap (λ n. v * n) p, mul_assoc v (2 ^ (b * j)) (2 ^ b), weighed_more b (j + 1) vs, add-mul (v * 2 ^ (b * j)) (weighed b (j + 1) vs) (2 ^ b))
 
 -- a scalar in front
 pub pack_cons : (b v : ℕ) (vs : List ℕ) → pack b (v ∷ vs) ≡ pack b vs * 2 ^ b + v
@@ -89,12 +85,12 @@ module _ (n : ℕ) (some : 1 ≤ n) where
   pub group_inside : (vs : List ℕ) (i : ℕ) → i < groups n vs → i * n < length vs
   group_inside vs i h =
       let m : (i + 1) * n ≤ groups n vs * n = mul-le (i + 1) n (groups n vs) n (omega arith) (omega arith) in
-      let e : (i + 1) * n ≡ i * n + n = mul_comm (i + 1) n ∙ mul-add n i 1 ∙ ap (λ x. n * i + x) (mul-one n) ∙ ap (λ x. x + n) (mul_comm n i) in
+      let e : (i + 1) * n ≡ i * n + n = omega (arith, add-mul i 1 n) in
       omega (arith, m, e, div-add-mod' (length vs + (n - 1)) n)
 
   pub groups-few : (rate : ℕ) (vs : List ℕ) → length vs ≤ n * rate → groups n vs ≤ rate
   groups-few rate vs h =
-      let m : (rate + 1) * n ≡ n * rate + n = mul_comm (rate + 1) n ∙ mul-add n rate 1 ∙ ap (λ x. n * rate + x) (mul-one n) in
+      let m : (rate + 1) * n ≡ n * rate + n = omega (arith, add-mul rate 1 n, mul_comm rate n) in
       let l : (length vs + (n - 1)) / n < rate + 1 = div_below (length vs + (n - 1)) n (rate + 1) (omega arith) (omega (arith, m)) in
       omega arith
 

@@ -5,6 +5,7 @@ ghost use Rattle.packing.specs.Packing.{split};
 
 use buffer::Buffer;
 
+// Kept as a function with a count: it promises that many digits for every count, and Numbers has one count.
 /// Appends the lowest digits of the word, lowest first.
 pub fn push_digits<const SAMPLED: u64>(scalars: &mut Buffer<SAMPLED, 448>, word: u64, count: usize)
     requires low { 2 ≤ SAMPLED }

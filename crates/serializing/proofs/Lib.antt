@@ -1,2 +1,1 @@
 mod Search
-mod Samples

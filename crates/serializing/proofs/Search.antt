@@ -58,25 +58,6 @@ module _ {Held : Type 0} (order : ℕ) (m : Transcript Held) where
           let none = missed m (m.next h) n (2 ^ b - 1) (omega (arith, roomy)) e in
           grind_spent (means order m) h b n q some within (none_accepted n (omega arith) (λ k lt. none k (omega (arith, all, lt))))
 
--- the steps of a check: a byte is dropped, the witness observed, a word drawn; each left its make as it was
-module _ {Make Held : Type 0} (M : Make → Transcript Held) (order : ℕ) (k : Make) (h : Held) (b w : ℕ)
-    (q : few_bits order b ≡ true) (some : 1 ≤ b) (roomy : 8 ≤ (M k).room ((M k).next h)) (lt : w < order) where
-  pub check_steps : (k₁ k₂ : Make) (h₁ h₂ h₃ : Held) (v : ℕ) → k₁ ≡ k → h₁ ≡ (M k).next h
-      → k₂ ≡ k₁ → h₂ ≡ (observe_of (bytes_observed (M k₁) h₁ (encoded 4 (w ∷ []))) h₁).left
-      → v ≡ word (M k₂) h₂ → h₃ ≡ past (M k₂) h₂
-      → check_of (means order (M k)) h b w ≡ reply (Ok (eqb (v % 2 ^ b) 0)) h₃
-  check_steps k₁ k₂ h₁ h₂ h₃ v e₁ s₁ e₂ s₂ a s₃ =
-      let g = (M k).next h in
-      let put : h₂ ≡ puts (M k) g (le_bytes w) =
-      s₂ ∙ ap (λ x. (observe_of (bytes_observed (M x) h₁ (encoded 4 (w ∷ []))) h₁).left) e₁
-      ∙ ap (λ x. (observe_of (bytes_observed (M k) x (encoded 4 (w ∷ []))) x).left) s₁
-      ∙ ap (λ o. (observe_of o g).left) (put_one order (M k) g w (omega (arith, roomy))) in
-      let said : v ≡ word (M k) (puts (M k) g (le_bytes w)) = a ∙ ap (λ x. word (M x) h₂) (e₂ ∙ e₁) ∙ ap (word (M k)) put in
-      let left : h₃ ≡ past (M k) (puts (M k) g (le_bytes w)) = s₃ ∙ ap (λ x. past (M x) h₂) (e₂ ∙ e₁) ∙ ap (past (M k)) put in
-      check_is order (M k) h b q some roomy w lt
-      ∙ ap (λ x. reply (Ok (eqb (x % 2 ^ b) 0)) (past (M k) (puts (M k) g (le_bytes w)))) (sym said)
-      ∙ ap (reply (Ok (eqb (v % 2 ^ b) 0))) (sym left)
-
 -- a search that began with k₁ and h₁, by a power p
 pub sought_there : {Make Held : Type 0} (M : Make → Transcript Held) (k k₁ : Make) (h h₁ : Held) (b n p : ℕ) → k₁ ≡ k → h₁ ≡ (M k).next h → p ≡ 2 ^ b
     → sought (M k₁) h₁ n (p - 1) ≡ sought (M k) ((M k).next h) n (2 ^ b - 1)

@@ -20,7 +20,3 @@ module _ {D P : Type 0} {order : ℕ} {d : DomainGhosts D order} {p : Permutatio
 
   pub rate_small : s.rate ≤ 63
   rate_small = omega (arith, rate_inside, sponge_row.bounded)
-
-  -- the permuted row keeps the width
-  pub permuted_width : (image : List ℕ → List ℕ) → Lawful order image → (new : List ℕ) → new ≡ image (items s.row) → length new ≡ s.width
-  permuted_width image lawful new q = ap length q ∙ lawful.keeps_length (items s.row) sponge_row ∙ s.sized

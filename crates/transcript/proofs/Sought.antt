@@ -22,9 +22,6 @@ module _ {Held : Type 0} (m : Transcript Held) (h : Held) (n mask : ℕ) where
       searches r ∙ ap (if_below (candidates_of n)) (first-none (passes m h mask) (candidates_of n) none)
       ∙ cond-false (ltb (candidates_of n) (candidates_of n)) _ _ (le-ltb (candidates_of n) (candidates_of n) (omega arith))
 
-  pub sought_full : m.room h < 4 → sought m h n mask ≡ None
-  sought_full r = cond-false (leb 4 (m.room h)) _ _ (lt-leb 4 (m.room h) r)
-
   pub record Found (w : ℕ) : Type 0 where
     pub within : w < candidates_of n
     pub none : NonePass w

@@ -1,12 +1,10 @@
-use Rattle.std.proofs.Common.{◌≡◌, ℕ, ◌+◌, ◌*◌, ◌++◌, length, get_or, drop, sym, ap, ◌∙◌, append_assoc, mul_comm, mul-one, mul-add, arith}
+use Rattle.std.proofs.Common.{◌≡◌, ◌+◌, ◌++◌, length, get_or, drop, sym, ap, ◌∙◌, append_assoc, arith}
+use Rattle.std.proofs.Math.Nat.{add-mul}
 use Rattle.std.proofs.lemmas.List.{at_drop_more, length-append}
 use Rattle.buffer.specs.Items.{items}
 use Rattle.packing.specs.Packing.{spread, split}
 use Rattle.multi_blocks.proofs.Lists.{split-length}
 use Rattle.multi_blocks.proofs.squeezing.split_all.Goals as goal
-
-next : (i k : ℕ) → (i + 1) * k ≡ i * k + k
-next i k = mul_comm (i + 1) k ∙ mul-add k i 1 ∙ omega (arith, mul_comm k i, mul-one k)
 
 pub loop-word-preserved : goal.loop-word-preserved
 loop-word-preserved g c =
@@ -19,6 +17,6 @@ loop-word-preserved g c =
     let d = split b k (get_or ws i 0) in
     let pushed : items c.push_digits.new.scalars ≡ q ++ d = c.push_digits.ensures ∙ ap (λ xs. q ++ split b k (get_or xs i 0)) same in
     let step : spread b k (drop i ws) ≡ d ++ spread b k (drop (i + 1) ws) = at_drop_more (spread b k) ws i 0 (omega (arith, c.loop-word-test.true, ap length same)) in (
-      ap length pushed ∙ length-append q d ∙ omega (arith, split-length b k (get_or ws i 0), c.loop-word.invariant.0, next i k),
+      ap length pushed ∙ length-append q d ∙ omega (arith, split-length b k (get_or ws i 0), c.loop-word.invariant.0, add-mul i 1 k),
       ap (λ xs. xs ++ spread b k (drop (i + 1) ws)) pushed ∙ append_assoc q d (spread b k (drop (i + 1) ws)) ∙ ap (λ ys. q ++ ys) (sym step) ∙ c.loop-word.invariant.1,
     )

@@ -1,8 +1,8 @@
 use Rattle.std.proofs.Common.{length, sym, ap, ◌∙◌, arith}
 use Rattle.std.proofs.lemmas.List.{length_push}
 use Rattle.std.proofs.lemmas.Iterator.Adapters.{YieldsList-from_rev_slice}
-use Rattle.std.proofs.lemmas.Iterator.Consumers.{YieldsList-turn, YieldsList-end}
-use Rattle.packing.proofs.Groups.{end_word, end_none, end_all, end_more}
+use Rattle.std.proofs.lemmas.Iterator.Consumers.{YieldsList-turn}
+use Rattle.packing.proofs.Groups.{end_word, end_none, end_more}
 use Rattle.packing.proofs.Facts.{word, next_code}
 use Rattle.packing.proofs.Numbers.pack_group.Goals as goal
 
@@ -28,10 +28,5 @@ loop-scalar-preserved g c =
     let t = YieldsList-turn (YieldsList-from_rev_slice c.args.group.now cc) xs _ c.loop-scalar.yielded_by _ _ c.in-Some.scalar c.in-Some.is c.next.ensures.steps in
     end_more g.row.SAMPLED c.args.group.now n.radix (length xs) c.in-Some.scalar.now c.loop-scalar.word n.radixed t c.loop-scalar.invariant ∙ ap (end_word g.row.SAMPLED c.args.group.now) (sym (length_push xs c.in-Some.scalar))
 
-pub returns : goal.returns
-returns g c =
-    let n = c.args.self.now in
-    let k = length c.loop-scalar.yielded in
-    let t = YieldsList-end (YieldsList-from_rev_slice c.args.group.now cc) c.loop-scalar.yielded _ c.loop-scalar.yielded_by _ _ c.in-None.is c.next.ensures.steps in
-    let h = word n g.ORDER.fits.fits c.args.group.now c.requires.codes c.requires.few k in
-    record { value = c.loop-scalar.invariant ∙ end_all g.row.SAMPLED c.args.group.now k t.1; code = omega (arith, c.loop-scalar.invariant, h) }
+pub returns-clause-code : goal.returns-clause-code
+returns-clause-code g c = omega (arith, word c.args.self.now g.ORDER.fits.fits c.args.group.now c.requires.codes c.requires.few (length c.loop-scalar.yielded))

@@ -4,8 +4,8 @@ use Rattle.packing.specs.Powers.{limbs, greatest_power, Limbs}
 use Rattle.packing.specs.PowerLaws.{limbs-words}
 use Rattle.packing.proofs.powers.limbs.Goals as goal
 
-pub greatest_power-n-requires : goal.greatest_power-n-requires
-greatest_power-n-requires c = record { base = omega (arith, c.radix.ensures, c.requires.low, (code_bits-least c.args.sampled c.requires.small).enough); some = c.requires.some }
+pub greatest_power-n-requires-clause-base : goal.greatest_power-n-requires-clause-base
+greatest_power-n-requires-clause-base c = omega (arith, c.radix.ensures, (code_bits-least c.args.sampled c.requires.small).enough)
 
 pub returns : goal.returns
 unfolding limbs

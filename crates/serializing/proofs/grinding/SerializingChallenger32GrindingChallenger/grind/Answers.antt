@@ -6,30 +6,6 @@ use Rattle.serializing.specs.Rules.{means}
 use Rattle.serializing.proofs.Search.{searched, unfound, sought_there}
 use Rattle.serializing.proofs.grinding.SerializingChallenger32GrindingChallenger.grind.Goals as goal
 
-pub returns-then-not-few_bits : goal.returns-then-not-few_bits
-returns-then-not-few_bits g c =
-    let t = c.args.self.now.inner in
-    let m = means g.row.ORDER (g.T.ByteTranscript.meaning (g.T.Holding.make t)) in
-    let h = g.T.Holding.held t in
-    let e = grind_bits m h c.args.bits c.args.budget (sym c.if-not-few_bits.ensures) in
-    record { does = does_by e refl; least = ground_by m h c.args.bits c.args.budget e }
-
-pub returns-then-bits-eq0 : goal.returns-then-bits-eq0
-returns-then-bits-eq0 g c =
-    let t = c.args.self.now.inner in
-    let m = means g.row.ORDER (g.T.ByteTranscript.meaning (g.T.Holding.make t)) in
-    let h = g.T.Holding.held t in
-    let e = grind_none m h c.args.bits c.args.budget (sym c.if-not-few_bits.ensures) (eq-eqb _ _ c.if-bits-eq0.true) in
-    record { does = does_by e refl; least = ground_by m h c.args.bits c.args.budget e }
-
-pub returns-then-budget : goal.returns-then-budget
-returns-then-budget g c =
-    let t = c.args.self.now.inner in
-    let m = means g.row.ORDER (g.T.ByteTranscript.meaning (g.T.Holding.make t)) in
-    let h = g.T.Holding.held t in
-    let e = grind_budget m h c.args.bits c.args.budget (sym c.if-not-few_bits.ensures) (ne_eqb _ _ c.if-bits-eq0.false) (lt-leb _ _ c.if-budget.true) in
-    record { does = does_by e refl; least = ground_by m h c.args.bits c.args.budget e }
-
 pub returns-in_default : goal.returns-in_default
 returns-in_default g c =
     let M = g.T.ByteTranscript.meaning in

@@ -1,7 +1,6 @@
 use Rattle.std.proofs.Common.{◌+◌, Ok, sym, refl, ap, ◌∙◌, arith}
-use Rattle.std.proofs.lemmas.Bool.{eq-eqb, ne_eqb, lt-leb}
 use Rattle.interface.specs.Meaning.{reply}
-use Rattle.interface.proofs.Checks.{does_by, grind_bits, grind_none, grind_budget, ground_by}
+use Rattle.interface.proofs.Checks.{does_by, ground_by}
 use Rattle.serializing.specs.Rules.{means}
 use Rattle.serializing.proofs.Search.{searched, unfound, sought_there}
 use Rattle.serializing.proofs.grinding.SerializingChallenger32GrindingChallenger.grind.Goals as goal

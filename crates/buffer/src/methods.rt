@@ -124,7 +124,7 @@ impl<const ORDER: u64, const N: usize> Buffer<ORDER, N> {
         permutation: &P,
     )
         requires row { Row ORDER (items self.old) }
-        ensures { items self.new ≡ P.CryptographicPermutation.image permutation.now (items self.old) }
+        ensures { items self.new ≡ P.image permutation.now (items self.old) }
     {
         permutation.permute(&mut self.cells[..self.count]);
     }

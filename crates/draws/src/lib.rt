@@ -18,7 +18,7 @@ pub trait CanDraw: Holding {
 
 /// Draws until a value is below the bound, at most once and `more` times. Refused, it tells the value drawn last and the bound.
 pub fn draw_below<C: CanDraw>(c: &mut C, bound: u64, more: u64) -> Result<u64, (u64, u64)>
-    ensures does { Does C.Holding.make C.Holding.held c.old c.new result (draw_below (C.CanDraw.drawn (C.Holding.make c.old)) bound more (C.Holding.held c.old)) }
+    ensures does { Does C.make C.held c.old c.new result (draw_below (C.drawn (C.make c.old)) bound more (C.held c.old)) }
 {
     let mut rest = more;
     let accepted = loop {

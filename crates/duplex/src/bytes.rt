@@ -22,7 +22,7 @@ impl ByteDomain<256> for Bytes {
 
 impl<D: ByteDomain<ORDER>, P: CryptographicPermutation<D, ORDER>, const ORDER: u64> ByteTranscript
     for DuplexChallenger<D, P, ORDER> {
-    ghost meaning = { λ m. byte_transcript (of_make D.Domain.arithmetic P.CryptographicPermutation.image m) };
+    ghost meaning = { λ m. byte_transcript (of_make D.arithmetic P.image m) };
 
     fn room(&self) -> u64 {
         18446744073709551615

@@ -13,9 +13,9 @@ impl<
     P: CryptographicPermutation<D, ORDER> + Copy,
     const ORDER: u64,
 > Challenger for DuplexChallenger<D, P, ORDER> {
-    ghost rule = { λ m. rule_of (of_make D.Domain.arithmetic P.CryptographicPermutation.image m) };
+    ghost rule = { λ m. rule_of (of_make D.arithmetic P.image m) };
 
-    ghost stands = { λ m. checks_stand (of_make D.Domain.arithmetic P.CryptographicPermutation.image m) };
+    ghost stands = { λ m. checks_stand (of_make D.arithmetic P.image m) };
 
     fn call(&mut self, call: &Call) -> Answer {
         match call {

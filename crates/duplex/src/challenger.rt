@@ -56,12 +56,12 @@ impl<D: Domain<ORDER>, P: CryptographicPermutation<D, ORDER>, const ORDER: u64> 
 
     ghost held = { held_in };
 
-    ghost fresh = { λ m. fresh_of (of_make D.Domain.arithmetic P.CryptographicPermutation.image m) };
+    ghost fresh = { λ m. fresh_of (of_make D.arithmetic P.image m) };
 }
 
 impl<D: Domain<ORDER>, P: CryptographicPermutation<D, ORDER>, const ORDER: u64> CanObserve
     for DuplexChallenger<D, P, ORDER> {
-    ghost observed = { λ m. observed_of (of_make D.Domain.arithmetic P.CryptographicPermutation.image m) };
+    ghost observed = { λ m. observed_of (of_make D.arithmetic P.image m) };
 
     fn observe(&mut self, codes: &[u64]) -> Result<(), Refusal> {
         if !all_codes::<ORDER>(codes) {
@@ -76,7 +76,7 @@ impl<D: Domain<ORDER>, P: CryptographicPermutation<D, ORDER>, const ORDER: u64> 
 
 impl<D: Domain<ORDER>, P: CryptographicPermutation<D, ORDER>, const ORDER: u64> CanSampleBits
     for DuplexChallenger<D, P, ORDER> {
-    ghost drawing = { λ m. drawing_of (of_make D.Domain.arithmetic P.CryptographicPermutation.image m) };
+    ghost drawing = { λ m. drawing_of (of_make D.arithmetic P.image m) };
 
     fn order(&self) -> u64 {
         ORDER
@@ -92,7 +92,7 @@ impl<D: Domain<ORDER>, P: CryptographicPermutation<D, ORDER>, const ORDER: u64> 
 
 impl<D: Domain<ORDER>, P: CryptographicPermutation<D, ORDER>, const ORDER: u64> CanDraw
     for DuplexChallenger<D, P, ORDER> {
-    ghost drawn = { λ m. sample_of (of_make D.Domain.arithmetic P.CryptographicPermutation.image m) };
+    ghost drawn = { λ m. sample_of (of_make D.arithmetic P.image m) };
 
     fn draw(&mut self) -> u64 {
         self.sample()
@@ -162,7 +162,7 @@ impl<D: Domain<ORDER>, P: CryptographicPermutation<D, ORDER>, const ORDER: u64> 
 
     /// Bits without bias, each bounded draw within the limit; at bits 0 it gives 0 and moves nothing.
     pub fn sample_uniform_bits(&mut self, bits: u64, limit: u64) -> Result<u64, Refusal>
-        ensures does { Does make_of held_in self.old self.new result (uniform_of (sample_of (making self.old)) ORDER D.Domain.arithmetic.single (held_in self.old) bits limit) }
+        ensures does { Does make_of held_in self.old self.new result (uniform_of (sample_of (making self.old)) ORDER D.arithmetic.single (held_in self.old) bits limit) }
     {
         uniform_bits(self, ORDER, D::single() as u64, bits, limit)
     }
@@ -173,7 +173,7 @@ impl<D: Domain<ORDER>, P: CryptographicPermutation<D, ORDER>, const ORDER: u64> 
         other: &DuplexChallenger<E, Q, ORDER>,
     ) -> bool
         ensures value { result ≡ ((make_of self.now).width == (make_of other.now).width && (make_of self.now).rate == (make_of other.now).rate) }
-        ensures make { result ≡ true → D.Domain.arithmetic ≡ E.Domain.arithmetic → (making self.now).image ≡ (making other.now).image → OneMake (rule_of (making self.now)) (rule_of (making other.now)) (fresh_of (making self.now)) (fresh_of (making other.now)) }
+        ensures make { result ≡ true → D.arithmetic ≡ E.arithmetic → (making self.now).image ≡ (making other.now).image → OneMake (rule_of (making self.now)) (rule_of (making other.now)) (fresh_of (making self.now)) (fresh_of (making other.now)) }
     {
         self.sponge.width() == other.sponge.width() && self.sponge.rate() == other.sponge.rate()
     }

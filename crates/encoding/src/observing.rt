@@ -10,9 +10,9 @@ use transcript::ByteTranscript;
 /// Observes a number as its `size` low bytes, where they fit.
 fn put_number<T: ByteTranscript>(transcript: &mut T, number: u64, size: usize)
     requires bytes { size ≤ 8 }
-    requires room { size ≤ (T.ByteTranscript.meaning (T.Holding.make transcript.old)).room (T.Holding.held transcript.old) }
-    ensures left { T.Holding.held transcript.new ≡ puts (T.ByteTranscript.meaning (T.Holding.make transcript.old)) (T.Holding.held transcript.old) (low_bytes size number) }
-    ensures kept { T.Holding.make transcript.new ≡ T.Holding.make transcript.old }
+    requires room { size ≤ (T.meaning (T.make transcript.old)).room (T.held transcript.old) }
+    ensures left { T.held transcript.new ≡ puts (T.meaning (T.make transcript.old)) (T.held transcript.old) (low_bytes size number) }
+    ensures kept { T.make transcript.new ≡ T.make transcript.old }
 {
     let _ = transcript.observe_bytes(&number.to_le_bytes()[..size]);
 }
@@ -20,9 +20,9 @@ fn put_number<T: ByteTranscript>(transcript: &mut T, number: u64, size: usize)
 /// Observes each number as its `size` low bytes, where all fit.
 fn put_numbers<T: ByteTranscript>(transcript: &mut T, numbers: &[u64], size: usize)
     requires bytes { size ≤ 8 }
-    requires room { fits (T.ByteTranscript.meaning (T.Holding.make transcript.old)) (T.Holding.held transcript.old) (encoded size numbers.now) ≡ true }
-    ensures left { T.Holding.held transcript.new ≡ puts (T.ByteTranscript.meaning (T.Holding.make transcript.old)) (T.Holding.held transcript.old) (encoded size numbers.now) }
-    ensures kept { T.Holding.make transcript.new ≡ T.Holding.make transcript.old }
+    requires room { fits (T.meaning (T.make transcript.old)) (T.held transcript.old) (encoded size numbers.now) ≡ true }
+    ensures left { T.held transcript.new ≡ puts (T.meaning (T.make transcript.old)) (T.held transcript.old) (encoded size numbers.now) }
+    ensures kept { T.make transcript.new ≡ T.make transcript.old }
 {
     for number in numbers {
         put_number(transcript, *number, size);
@@ -37,7 +37,7 @@ pub fn observe_numbers<T: ByteTranscript>(
 ) -> Result<(), Refusal>
     requires some { 1 ≤ size }
     requires bytes { size ≤ 8 }
-    ensures does { Does T.Holding.make T.Holding.held transcript.old transcript.new result (observe_of (bytes_observed (T.ByteTranscript.meaning (T.Holding.make transcript.old)) (T.Holding.held transcript.old) (encoded size numbers.now)) (T.Holding.held transcript.old)) }
+    ensures does { Does T.make T.held transcript.old transcript.new result (observe_of (bytes_observed (T.meaning (T.make transcript.old)) (T.held transcript.old) (encoded size numbers.now)) (T.held transcript.old)) }
 {
     if numbers.len() as u64 > transcript.room() / size as u64 {
         return Err(Refusal::Room);

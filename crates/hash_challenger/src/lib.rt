@@ -34,7 +34,7 @@ impl<H: CryptographicHasher<N> + Drop, const N: usize> HashChallenger<H, N> {
 
     /// Ends the challenger: the digest of the input.
     pub fn finalize(self) -> [u8; N]
-        ensures { result ≡ H.CryptographicHasher.digest (held_in self.state).input }
+        ensures { result ≡ H.digest (held_in self.state).input }
     {
         self.hasher.hash(self.state.input())
     }
@@ -57,7 +57,7 @@ impl<H: CryptographicHasher<N>, const N: usize> HashChallenger<H, N> {
 
     /// The last output; if none is left, the input and the outputs first become the digest of the input. What is held is one of the values that can be.
     pub fn sample(&mut self) -> u8
-        ensures does { Does (λ s. s.hasher) (λ s. held_in s.state) self.old self.new result (sample_of H.CryptographicHasher.digest (held_in self.old.state)) }
+        ensures does { Does (λ s. s.hasher) (λ s. held_in s.state) self.old self.new result (sample_of H.digest (held_in self.old.state)) }
         ensures sound { sound (held_in self.old.state) ≡ true }
     {
         self.state.sample::<H, N>(&self.hasher)
@@ -102,7 +102,7 @@ impl<H: CryptographicHasher<N>, const N: usize> Holding for HashChallenger<H, N>
 }
 
 impl<H: CryptographicHasher<N>, const N: usize> ByteTranscript for HashChallenger<H, N> {
-    ghost meaning = { λ _. hash_transcript H.CryptographicHasher.digest H.CryptographicHasher.hashing };
+    ghost meaning = { λ _. hash_transcript H.digest H.hashing };
 
     fn room(&self) -> u64 {
         self.state.room() as u64

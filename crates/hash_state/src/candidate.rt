@@ -55,7 +55,7 @@ impl Prepared {
         mask: u64,
     ) -> bool
         requires four { 4 ≤ N }
-        ensures value { result ≡ (bit_and (end_word (H.CryptographicHasher.digest (front self.old ++ le_bytes candidate))) mask == 0) }
+        ensures value { result ≡ (bit_and (end_word (H.digest (front self.old ++ le_bytes candidate))) mask == 0) }
         ensures front { front self.new ≡ front self.old }
     {
         self.write(candidate);

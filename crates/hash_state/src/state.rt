@@ -70,7 +70,7 @@ impl HashState {
 
     /// With no output left, the input and the outputs become the digest of the input.
     fn prepare<H: CryptographicHasher<N>, const N: usize>(&mut self, hasher: &H)
-        ensures state { held self.new ≡ ready H.CryptographicHasher.digest (held self.old) }
+        ensures state { held self.new ≡ ready H.digest (held self.old) }
         ensures some { 0 < self.new.left }
     {
         if self.left > 0 {
@@ -92,8 +92,8 @@ impl HashState {
 
     /// The last output, after a draw if none is left. What is held is one of the values that can be.
     pub fn sample<H: CryptographicHasher<N>, const N: usize>(&mut self, hasher: &H) -> u8
-        ensures said { result ≡ (sample_of H.CryptographicHasher.digest (held self.old)).said }
-        ensures left { held self.new ≡ (sample_of H.CryptographicHasher.digest (held self.old)).left }
+        ensures said { result ≡ (sample_of H.digest (held self.old)).said }
+        ensures left { held self.new ≡ (sample_of H.digest (held self.old)).left }
         ensures sound { sound (held self.old) ≡ true }
     {
         self.prepare::<H, N>(hasher);

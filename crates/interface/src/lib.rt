@@ -57,9 +57,9 @@ pub trait CanStartCheck: Holding {
 /// Checking witnesses and searching for them: promised through the meanings of observing, of drawing bits and of where a check starts.
 pub trait GrindingChallenger: CanObserve + CanSampleBits + CanStartCheck {
     fn check_witness(&mut self, bits: u64, witness: u64) -> Result<bool, Refusal>
-        ensures does { Does Self.Holding.make Self.Holding.held self.old self.new result (check_of (at_make Self.CanObserve.observed Self.CanSampleBits.drawing Self.CanStartCheck.started (Self.Holding.make self.old)) (Self.Holding.held self.old) bits witness) };
+        ensures does { Does Self.make Self.held self.old self.new result (check_of (at_make Self.observed Self.drawing Self.started (Self.make self.old)) (Self.held self.old) bits witness) };
 
     fn grind(&mut self, bits: u64, budget: u64) -> Result<(u64, u64), Refusal>
-        ensures does { Does Self.Holding.make Self.Holding.held self.old self.new result (grind_of (at_make Self.CanObserve.observed Self.CanSampleBits.drawing Self.CanStartCheck.started (Self.Holding.make self.old)) (Self.Holding.held self.old) bits budget) }
-        ensures least { LeastWitness (at_make Self.CanObserve.observed Self.CanSampleBits.drawing Self.CanStartCheck.started (Self.Holding.make self.old)) (Self.Holding.held self.old) bits budget (record { said = result; left = Self.Holding.held self.new }) };
+        ensures does { Does Self.make Self.held self.old self.new result (grind_of (at_make Self.observed Self.drawing Self.started (Self.make self.old)) (Self.held self.old) bits budget) }
+        ensures least { LeastWitness (at_make Self.observed Self.drawing Self.started (Self.make self.old)) (Self.held self.old) bits budget (record { said = result; left = Self.held self.new }) };
 }

@@ -19,7 +19,7 @@ pub fn check_by_parts<C: CanObserve + CanSampleBits + CanStartCheck + Copy>(
     bits: u64,
     witness: u64,
 ) -> Result<bool, Refusal>
-    ensures does { Does C.Holding.make C.Holding.held c.old c.new result (check_of (at_make C.CanObserve.observed C.CanSampleBits.drawing C.CanStartCheck.started (C.Holding.make c.old)) (C.Holding.held c.old) bits witness) }
+    ensures does { Does C.make C.held c.old c.new result (check_of (at_make C.observed C.drawing C.started (C.make c.old)) (C.held c.old) bits witness) }
 {
     let order = c.order();
     if !few_bits(order, bits) {
@@ -46,8 +46,8 @@ pub fn grind_by_trial<C: CanObserve + CanSampleBits + CanStartCheck + Copy>(
     bits: u64,
     budget: u64,
 ) -> Result<(u64, u64), Refusal>
-    ensures does { Does C.Holding.make C.Holding.held c.old c.new result (grind_of (at_make C.CanObserve.observed C.CanSampleBits.drawing C.CanStartCheck.started (C.Holding.make c.old)) (C.Holding.held c.old) bits budget) }
-    ensures least { LeastWitness (at_make C.CanObserve.observed C.CanSampleBits.drawing C.CanStartCheck.started (C.Holding.make c.old)) (C.Holding.held c.old) bits budget (record { said = result; left = C.Holding.held c.new }) }
+    ensures does { Does C.make C.held c.old c.new result (grind_of (at_make C.observed C.drawing C.started (C.make c.old)) (C.held c.old) bits budget) }
+    ensures least { LeastWitness (at_make C.observed C.drawing C.started (C.make c.old)) (C.held c.old) bits budget (record { said = result; left = C.held c.new }) }
 {
     let order = c.order();
     if !few_bits(order, bits) {

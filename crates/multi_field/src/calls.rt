@@ -15,9 +15,9 @@ impl<
     const SAMPLED: u64,
     const ORDER: u64,
 > Challenger for MultiField32Challenger<F, D, P, SAMPLED, ORDER> {
-    ghost rule = { λ m. rule_of SAMPLED (of_make D.Domain.arithmetic P.CryptographicPermutation.image m) };
+    ghost rule = { λ m. rule_of SAMPLED (of_make D.arithmetic P.image m) };
 
-    ghost stands = { λ m. checks_stand SAMPLED (of_make D.Domain.arithmetic P.CryptographicPermutation.image m) };
+    ghost stands = { λ m. checks_stand SAMPLED (of_make D.arithmetic P.image m) };
 
     fn call(&mut self, call: &Call) -> Answer {
         match call {
@@ -34,9 +34,10 @@ impl<
             Call::CheckWitness(bits, witness) => self
                 .check_witness(*bits, *witness)
                 .map_or_else(Answer::Refused, Answer::Checked),
-            Call::Grind(bits, budget) => self
-                .grind(*bits, *budget)
-                .map_or_else(Answer::Refused, |(witness, trials)| Answer::Ground(witness, trials)),
+            Call::Grind(bits, budget) => self.grind(*bits, *budget).map_or_else(
+                Answer::Refused,
+                |(witness, trials)| Answer::Ground(witness, trials),
+            ),
             _ => Answer::Absent,
         }
     }

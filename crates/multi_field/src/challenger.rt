@@ -168,7 +168,7 @@ impl<
         Q: CryptographicPermutation<E, ORDER>,
     >(&self, other: &MultiField32Challenger<G, E, Q, SAMPLED, ORDER>) -> bool
         ensures value { result ≡ ((make_of self.now).width == (make_of other.now).width && (make_of self.now).rate == (make_of other.now).rate) }
-        ensures make { result ≡ true → D.Domain.arithmetic ≡ E.Domain.arithmetic → (making self.now).image ≡ (making other.now).image → OneMake (rule_of SAMPLED (making self.now)) (rule_of SAMPLED (making other.now)) (fresh_of SAMPLED (making self.now)) (fresh_of SAMPLED (making other.now)) }
+        ensures make { result ≡ true → D.arithmetic ≡ E.arithmetic → (making self.now).image ≡ (making other.now).image → OneMake (rule_of SAMPLED (making self.now)) (rule_of SAMPLED (making other.now)) (fresh_of SAMPLED (making self.now)) (fresh_of SAMPLED (making other.now)) }
     {
         self.sponge.width() == other.sponge.width() && self.sponge.rate() == other.sponge.rate()
     }

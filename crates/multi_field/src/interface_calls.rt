@@ -24,7 +24,7 @@ impl<
 
     ghost held = { held_in };
 
-    ghost fresh = { λ m. fresh_of SAMPLED (of_make D.Domain.arithmetic P.CryptographicPermutation.image m) };
+    ghost fresh = { λ m. fresh_of SAMPLED (of_make D.arithmetic P.image m) };
 }
 
 impl<
@@ -34,7 +34,7 @@ impl<
     const SAMPLED: u64,
     const ORDER: u64,
 > CanObserve for MultiField32Challenger<F, D, P, SAMPLED, ORDER> {
-    ghost observed = { λ m. observed_of SAMPLED (of_make D.Domain.arithmetic P.CryptographicPermutation.image m) };
+    ghost observed = { λ m. observed_of SAMPLED (of_make D.arithmetic P.image m) };
 
     fn observe(&mut self, codes: &[u64]) -> Result<(), Refusal> {
         if !all_codes::<SAMPLED>(codes) {
@@ -54,7 +54,7 @@ impl<
     const SAMPLED: u64,
     const ORDER: u64,
 > CanSampleBits for MultiField32Challenger<F, D, P, SAMPLED, ORDER> {
-    ghost drawing = { λ m. drawing_of SAMPLED (of_make D.Domain.arithmetic P.CryptographicPermutation.image m) };
+    ghost drawing = { λ m. drawing_of SAMPLED (of_make D.arithmetic P.image m) };
 
     fn order(&self) -> u64 {
         SAMPLED

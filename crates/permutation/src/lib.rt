@@ -73,7 +73,7 @@ fn step<D: Domain<ORDER>, const ORDER: u64>(row: &mut [u64], r: u64, i: usize, n
     requires few { r < 16 }
     requires cell { i < length row.old }
     requires next { next ≡ (i + 1) % length row.old }
-    ensures { row.new ≡ ladder_step D.Domain.arithmetic r i row.old }
+    ensures { row.new ≡ ladder_step D.arithmetic r i row.old }
 {
     let gain = D::add(D::stir(row[i]), r + i as u64 + 1);
     row[next] = D::add(row[next], gain);
@@ -83,7 +83,7 @@ fn step<D: Domain<ORDER>, const ORDER: u64>(row: &mut [u64], r: u64, i: usize, n
 fn round<D: Domain<ORDER>, const ORDER: u64>(r: u64, row: &mut [u64])
     requires row { Row ORDER row.old }
     requires few { r < 16 }
-    ensures { row.new ≡ ladder_steps D.Domain.arithmetic r (length row.old) row.old }
+    ensures { row.new ≡ ladder_steps D.arithmetic r (length row.old) row.old }
 {
     let last = row.len() - 1;
     for i in 0..last {
@@ -93,9 +93,9 @@ fn round<D: Domain<ORDER>, const ORDER: u64>(r: u64, row: &mut [u64])
 }
 
 impl<D: Domain<ORDER>, const ORDER: u64> CryptographicPermutation<D, ORDER> for Ladder {
-    ghost image = { λ p. ladder_rounds D.Domain.arithmetic p.rounds };
+    ghost image = { λ p. ladder_rounds D.arithmetic p.rounds };
 
-    ghost lawful = { λ p. ladder_lawful D.Domain.arithmetic p.rounds p.few };
+    ghost lawful = { λ p. ladder_lawful D.arithmetic p.rounds p.few };
 
     fn permute(&self, row: &mut [u64]) {
         for r in 0..self.rounds {

@@ -22,5 +22,5 @@ pub trait Challenger: Holding {
     ghost stands: { (k : Self.Make) → ChecksStand (rule k) };
 
     fn call(&mut self, call: &Call) -> Answer
-        ensures does { Does Self.Holding.make Self.Holding.held self.old self.new result (rule (Self.Holding.make self.old) (Self.Holding.held self.old) call.now) };
+        ensures does { Does Self.make Self.held self.old self.new result (rule (Self.make self.old) (Self.held self.old) call.now) };
 }

@@ -9,8 +9,8 @@ use interface::Holding;
 /// The prover's run: the answer of each call in its place.
 pub fn prove_run<C: Challenger>(c: &mut C, calls: &[Call], said: &mut [Answer])
     requires places { length said.old ≡ length calls.now }
-    ensures run { Run (C.Challenger.rule (C.Holding.make c.old)) (C.Holding.held c.old) calls.now said.new (C.Holding.held c.new) }
-    ensures make { C.Holding.make c.new ≡ C.Holding.make c.old }
+    ensures run { Run (C.rule (C.make c.old)) (C.held c.old) calls.now said.new (C.held c.new) }
+    ensures make { C.make c.new ≡ C.make c.old }
 {
     // Kept as an index: nothing is known of places that were written behind `iter_mut().zip(..)`.
     for (i, call) in calls.iter().enumerate() {
@@ -40,9 +40,9 @@ pub fn verify_run<C: Challenger>(
 ) -> usize
     requires answers { length proved.now ≡ length calls.now }
     requires places { length said.old ≡ length calls.now }
-    ensures run { Run (C.Challenger.rule (C.Holding.make c.old)) (C.Holding.held c.old) (repeated calls.now proved.now) (take result said.new) (C.Holding.held c.new) }
+    ensures run { Run (C.rule (C.make c.old)) (C.held c.old) (repeated calls.now proved.now) (take result said.new) (C.held c.new) }
     ensures rest { drop result said.new ≡ drop result said.old }
-    ensures make { C.Holding.make c.new ≡ C.Holding.make c.old }
+    ensures make { C.make c.new ≡ C.make c.old }
 {
     let mut n = 0;
     for (call, answer) in calls.iter().zip(proved) {
@@ -63,9 +63,9 @@ pub fn agree<P: Challenger, V: Challenger + Holding<Held = P::Held>>(
     said: &mut [Answer],
 ) -> Option<usize>
     ensures refused { MatchOption result ((places calls.now proved.old said.old ≡ false) × (prover.new ≡ prover.old) × (verifier.new ≡ verifier.old) × (proved.new ≡ proved.old) × (said.new ≡ said.old)) (λ _. places calls.now proved.old said.old ≡ true) }
-    ensures rehearsed { IfSome result (λ n. Rehearsed (P.Challenger.rule (P.Holding.make prover.old)) (V.Challenger.rule (V.Holding.make verifier.old)) (P.Holding.fresh (P.Holding.make prover.old)) (V.Holding.fresh (V.Holding.make verifier.old)) (P.Holding.held prover.old) (V.Holding.held verifier.old) (P.Holding.held prover.new) (V.Holding.held verifier.new) calls.now proved.new (take n said.new)) }
+    ensures rehearsed { IfSome result (λ n. Rehearsed (P.rule (P.make prover.old)) (V.rule (V.make verifier.old)) (P.fresh (P.make prover.old)) (V.fresh (V.make verifier.old)) (P.held prover.old) (V.held verifier.old) (P.held prover.new) (V.held verifier.new) calls.now proved.new (take n said.new)) }
     ensures rest { IfSome result (λ n. drop n said.new ≡ drop n said.old) }
-    ensures makes { (P.Holding.make prover.new ≡ P.Holding.make prover.old) × (V.Holding.make verifier.new ≡ V.Holding.make verifier.old) }
+    ensures makes { (P.make prover.new ≡ P.make prover.old) × (V.make verifier.new ≡ V.make verifier.old) }
 {
     if proved.len() != calls.len() || said.len() != calls.len() {
         return None;

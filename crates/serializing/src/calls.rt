@@ -11,9 +11,9 @@ use transcript::{ByteGrindingChallenger, ByteTranscript};
 
 impl<D: Domain<ORDER> + Copy, T: ByteGrindingChallenger + Copy, const ORDER: u64> Challenger
     for SerializingChallenger32<D, T, ORDER> {
-    ghost rule = { λ k. rule_of ORDER (T.ByteTranscript.meaning k) };
+    ghost rule = { λ k. rule_of ORDER (T.meaning k) };
 
-    ghost stands = { λ k. checks_stand ORDER (T.ByteTranscript.meaning k) };
+    ghost stands = { λ k. checks_stand ORDER (T.meaning k) };
 
     fn call(&mut self, call: &Call) -> Answer {
         match call {
@@ -47,6 +47,6 @@ impl<D: Domain<ORDER>, T: ByteTranscript, const ORDER: u64> SerializingChallenge
         &self,
         _other: &SerializingChallenger32<E, U, ORDER>,
     )
-        ensures make { T.ByteTranscript.meaning (T.Holding.make self.now.inner) ≡ U.ByteTranscript.meaning (U.Holding.make _other.now.inner) → T.Holding.fresh (T.Holding.make self.now.inner) ≡ U.Holding.fresh (U.Holding.make _other.now.inner) → OneMake (rule_of ORDER (T.ByteTranscript.meaning (T.Holding.make self.now.inner))) (rule_of ORDER (U.ByteTranscript.meaning (U.Holding.make _other.now.inner))) (T.Holding.fresh (T.Holding.make self.now.inner)) (U.Holding.fresh (U.Holding.make _other.now.inner)) }
+        ensures make { T.meaning (T.make self.now.inner) ≡ U.meaning (U.make _other.now.inner) → T.fresh (T.make self.now.inner) ≡ U.fresh (U.make _other.now.inner) → OneMake (rule_of ORDER (T.meaning (T.make self.now.inner))) (rule_of ORDER (U.meaning (U.make _other.now.inner))) (T.fresh (T.make self.now.inner)) (U.fresh (U.make _other.now.inner)) }
     {}
 }

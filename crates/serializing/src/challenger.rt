@@ -22,16 +22,16 @@ impl<D: Domain<ORDER>, T: ByteTranscript, const ORDER: u64> Holding
 
     type Held = T::Held;
 
-    ghost make = { λ s. T.Holding.make s.inner };
+    ghost make = { λ s. T.make s.inner };
 
-    ghost held = { λ s. T.Holding.held s.inner };
+    ghost held = { λ s. T.held s.inner };
 
-    ghost fresh = { T.Holding.fresh };
+    ghost fresh = { T.fresh };
 }
 
 impl<D: Domain<ORDER>, T: ByteTranscript, const ORDER: u64> CanObserve
     for SerializingChallenger32<D, T, ORDER> {
-    ghost observed = { λ k. observed_of ORDER (T.ByteTranscript.meaning k) };
+    ghost observed = { λ k. observed_of ORDER (T.meaning k) };
 
     fn observe(&mut self, codes: &[u64]) -> Result<(), Refusal> {
         if !all_codes::<ORDER>(codes) {
@@ -43,7 +43,7 @@ impl<D: Domain<ORDER>, T: ByteTranscript, const ORDER: u64> CanObserve
 
 impl<D: Domain<ORDER>, T: ByteTranscript, const ORDER: u64> CanSampleBits
     for SerializingChallenger32<D, T, ORDER> {
-    ghost drawing = { λ k. drawing_of ORDER (T.ByteTranscript.meaning k) };
+    ghost drawing = { λ k. drawing_of ORDER (T.meaning k) };
 
     fn order(&self) -> u64 {
         ORDER
@@ -59,16 +59,16 @@ impl<D: Domain<ORDER>, T: ByteTranscript, const ORDER: u64> CanSampleBits
 
 /// Draws a byte and drops it. Eight bytes fit then, so the four of a witness do.
 pub fn squeeze<T: ByteTranscript>(transcript: &mut T)
-    ensures left { T.Holding.held transcript.new ≡ (T.ByteTranscript.meaning (T.Holding.make transcript.old)).next (T.Holding.held transcript.old) }
-    ensures kept { T.Holding.make transcript.new ≡ T.Holding.make transcript.old }
-    ensures roomy { 8 ≤ (T.ByteTranscript.meaning (T.Holding.make transcript.old)).room ((T.ByteTranscript.meaning (T.Holding.make transcript.old)).next (T.Holding.held transcript.old)) }
+    ensures left { T.held transcript.new ≡ (T.meaning (T.make transcript.old)).next (T.held transcript.old) }
+    ensures kept { T.make transcript.new ≡ T.make transcript.old }
+    ensures roomy { 8 ≤ (T.meaning (T.make transcript.old)).room ((T.meaning (T.make transcript.old)).next (T.held transcript.old)) }
 {
     let _ = transcript.sample_byte();
 }
 
 impl<D: Domain<ORDER>, T: ByteTranscript, const ORDER: u64> CanStartCheck
     for SerializingChallenger32<D, T, ORDER> {
-    ghost started = { λ k. (T.ByteTranscript.meaning k).next };
+    ghost started = { λ k. (T.meaning k).next };
 
     fn start_check(&mut self) {
         squeeze(&mut self.inner);
@@ -77,7 +77,7 @@ impl<D: Domain<ORDER>, T: ByteTranscript, const ORDER: u64> CanStartCheck
 
 impl<D: Domain<ORDER>, T: ByteTranscript, const ORDER: u64> CanDraw
     for SerializingChallenger32<D, T, ORDER> {
-    ghost drawn = { λ k. kept ORDER (T.ByteTranscript.meaning k) };
+    ghost drawn = { λ k. kept ORDER (T.meaning k) };
 
     fn draw(&mut self) -> u64 {
         low_bits(draw_word(&mut self.inner) as u64, self.code.bits)
@@ -108,14 +108,14 @@ impl<D: Domain<ORDER>, T: ByteTranscript + Drop, const ORDER: u64> SerializingCh
 impl<D: Domain<ORDER>, T: ByteTranscript, const ORDER: u64> SerializingChallenger32<D, T, ORDER> {
     /// Observes a digest of bytes.
     pub fn observe_digest(&mut self, bytes: &[u8]) -> Result<(), Refusal>
-        ensures does { Does (λ s. T.Holding.make s.inner) (λ s. T.Holding.held s.inner) self.old self.new result (observe_of (bytes_observed (T.ByteTranscript.meaning (T.Holding.make self.old.inner)) (T.Holding.held self.old.inner) bytes.now) (T.Holding.held self.old.inner)) }
+        ensures does { Does (λ s. T.make s.inner) (λ s. T.held s.inner) self.old self.new result (observe_of (bytes_observed (T.meaning (T.make self.old.inner)) (T.held self.old.inner) bytes.now) (T.held self.old.inner)) }
     {
         self.inner.observe_bytes(bytes)
     }
 
     /// Observes a digest of 64-bit words, each as eight bytes.
     pub fn observe_digest_words(&mut self, words: &[u64]) -> Result<(), Refusal>
-        ensures does { Does (λ s. T.Holding.make s.inner) (λ s. T.Holding.held s.inner) self.old self.new result (observe_of (bytes_observed (T.ByteTranscript.meaning (T.Holding.make self.old.inner)) (T.Holding.held self.old.inner) (encoded 8 words.now)) (T.Holding.held self.old.inner)) }
+        ensures does { Does (λ s. T.make s.inner) (λ s. T.held s.inner) self.old self.new result (observe_of (bytes_observed (T.meaning (T.make self.old.inner)) (T.held self.old.inner) (encoded 8 words.now)) (T.held self.old.inner)) }
     {
         observe_numbers(&mut self.inner, words, 8)
     }
@@ -123,7 +123,7 @@ impl<D: Domain<ORDER>, T: ByteTranscript, const ORDER: u64> SerializingChallenge
     #[tactic(auto, unfolding(crate::specs::Rules::sample_of))]
     /// A code: words are drawn until the kept bits of one are a code, within the draw limit.
     pub fn sample(&mut self, limit: u64) -> Result<u64, Refusal>
-        ensures does { Does (λ s. T.Holding.make s.inner) (λ s. T.Holding.held s.inner) self.old self.new result (sample_of ORDER (T.ByteTranscript.meaning (T.Holding.make self.old.inner)) (T.Holding.held self.old.inner) limit) }
+        ensures does { Does (λ s. T.make s.inner) (λ s. T.held s.inner) self.old self.new result (sample_of ORDER (T.meaning (T.make self.old.inner)) (T.held self.old.inner) limit) }
     {
         if !some_draws(limit) {
             return Err(Refusal::DrawLimit);
@@ -134,7 +134,7 @@ impl<D: Domain<ORDER>, T: ByteTranscript, const ORDER: u64> SerializingChallenge
     #[tactic(auto, unfolding(crate::specs::Rules::uniform_of))]
     /// The low bits of one word, once the bits and the draw limit are in order.
     pub fn sample_uniform_bits(&mut self, bits: u64, limit: u64) -> Result<u64, Refusal>
-        ensures does { Does (λ s. T.Holding.make s.inner) (λ s. T.Holding.held s.inner) self.old self.new result (uniform_of ORDER (T.ByteTranscript.meaning (T.Holding.make self.old.inner)) (T.Holding.held self.old.inner) bits limit) }
+        ensures does { Does (λ s. T.make s.inner) (λ s. T.held s.inner) self.old self.new result (uniform_of ORDER (T.meaning (T.make self.old.inner)) (T.held self.old.inner) bits limit) }
     {
         if !few_bits(ORDER, bits) {
             return Err(Refusal::Bits);
@@ -160,7 +160,7 @@ impl<D: Domain<ORDER>, T: CanFinalizeDigest, const ORDER: u64> SerializingChalle
 > {
     /// Ends the challenger: the digest of its transcript.
     pub fn finalize(self) -> T::Digest
-        ensures { T.CanFinalizeDigest.listed result ≡ (T.ByteTranscript.meaning (T.Holding.make self.inner)).digest (T.Holding.held self.inner) }
+        ensures { T.listed result ≡ (T.meaning (T.make self.inner)).digest (T.held self.inner) }
     {
         self.inner.finalize()
     }

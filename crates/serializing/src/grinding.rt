@@ -17,7 +17,7 @@ impl<D: Domain<ORDER>, T: ByteTranscript, const ORDER: u64> SerializingChallenge
     #[tactic(auto, unfolding(interface::specs::Grinding::check_of))]
     /// Draws a byte and drops it, observes the witness, and says whether the bits drawn then are 0.
     pub fn check(&mut self, bits: u64, witness: u64) -> Result<bool, Refusal>
-        ensures does { Does (λ s. T.Holding.make s.inner) (λ s. T.Holding.held s.inner) self.old self.new result (check_of (means ORDER (T.ByteTranscript.meaning (T.Holding.make self.old.inner))) (T.Holding.held self.old.inner) bits witness) }
+        ensures does { Does (λ s. T.make s.inner) (λ s. T.held s.inner) self.old self.new result (check_of (means ORDER (T.meaning (T.make self.old.inner))) (T.held self.old.inner) bits witness) }
         ensures refusals { IfErr result (λ e. CheckRefused ORDER bits witness e) }
     {
         if !few_bits(ORDER, bits) {

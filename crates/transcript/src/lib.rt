@@ -36,7 +36,7 @@ pub trait ByteTranscript: Holding {
 pub trait ByteGrindingChallenger: ByteTranscript {
     /// The least candidate for which a copy that observes its four bytes, least significant first, and then draws four has a masked word of 0; none if there is none below the number of candidates, or the room is below 4. Nothing moves.
     fn find_witness(&self, candidates: u64, mask: u64) -> Option<u64>
-        ensures { result ≡ sought (Self.ByteTranscript.meaning (Self.Holding.make self.now)) (Self.Holding.held self.now) candidates mask };
+        ensures { result ≡ sought (Self.meaning (Self.make self.now)) (Self.held self.now) candidates mask };
 }
 
 /// Ending a transcript with its digest.
@@ -47,5 +47,5 @@ pub trait CanFinalizeDigest: ByteTranscript {
     ghost listed: { Self.Digest → List ℕ };
 
     fn finalize(self) -> Self::Digest
-        ensures { listed result ≡ (Self.ByteTranscript.meaning (Self.Holding.make self)).digest (Self.Holding.held self) };
+        ensures { listed result ≡ (Self.meaning (Self.make self)).digest (Self.held self) };
 }

@@ -7,8 +7,8 @@ use crate::word::draw_word;
 
 /// Does a copy that observes the candidate's bytes draw a word that the mask makes 0?
 fn passing<T: ByteTranscript + Copy>(transcript: &T, candidate: u32, mask: u64) -> bool
-    requires room { 4 ≤ (T.ByteTranscript.meaning (T.Holding.make transcript.now)).room (T.Holding.held transcript.now) }
-    ensures { result ≡ passes (T.ByteTranscript.meaning (T.Holding.make transcript.now)) (T.Holding.held transcript.now) mask candidate }
+    requires room { 4 ≤ (T.meaning (T.make transcript.now)).room (T.held transcript.now) }
+    ensures { result ≡ passes (T.meaning (T.make transcript.now)) (T.held transcript.now) mask candidate }
 {
     let mut trial = *transcript;
     let _ = trial.observe_bytes(&candidate.to_le_bytes());
@@ -28,7 +28,7 @@ pub fn find_by_trial<T: ByteTranscript + Copy>(
     candidates: u64,
     mask: u64,
 ) -> Option<u64>
-    ensures { result ≡ sought (T.ByteTranscript.meaning (T.Holding.make transcript.now)) (T.Holding.held transcript.now) candidates mask }
+    ensures { result ≡ sought (T.meaning (T.make transcript.now)) (T.held transcript.now) candidates mask }
 {
     if transcript.room() < 4 {
         return None;

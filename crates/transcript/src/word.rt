@@ -18,7 +18,7 @@ pub fn word_of(bytes: &[u8]) -> u32
 /// Draws four bytes as a word.
 #[tactic(auto, unfolding(crate::specs::Transcript::word))]
 pub fn draw_word<T: ByteTranscript>(transcript: &mut T) -> u32
-    ensures does { Does T.Holding.make T.Holding.held transcript.old transcript.new result (reply (word (T.ByteTranscript.meaning (T.Holding.make transcript.old)) (T.Holding.held transcript.old)) (past (T.ByteTranscript.meaning (T.Holding.make transcript.old)) (T.Holding.held transcript.old))) }
+    ensures does { Does T.make T.held transcript.old transcript.new result (reply (word (T.meaning (T.make transcript.old)) (T.held transcript.old)) (past (T.meaning (T.make transcript.old)) (T.held transcript.old))) }
 {
     let a = transcript.sample_byte();
     let b = transcript.sample_byte();

@@ -32,7 +32,7 @@ fn join(low: u64, high: u64, bits: u64, more: u64) -> u64
 fn draw_part<C: CanDraw>(c: &mut C, order: u64, bits: u64, limit: u64) -> Result<u64, (u64, u64)>
     requires few { bits < 64 }
     requires some { 1 ≤ limit }
-    ensures does { Does C.Holding.make C.Holding.held c.old c.new result (part_of (C.CanDraw.drawn (C.Holding.make c.old)) order bits limit (C.Holding.held c.old)) }
+    ensures does { Does C.make C.held c.old c.new result (part_of (C.drawn (C.make c.old)) order bits limit (C.held c.old)) }
     ensures below { IfOk result (λ v. v < 2 ^ bits) }
 {
     let value = draw_below(c, sampling_bound(order, bits), limit - 1)?;
@@ -50,7 +50,7 @@ fn draw_parts<C: CanDraw>(
 ) -> Result<u64, (u64, u64)>
     requires few { bits < 64 }
     requires some { 1 ≤ limit }
-    ensures does { Does C.Holding.make C.Holding.held c.old c.new result (parts_of (C.CanDraw.drawn (C.Holding.make c.old)) order single bits limit (C.Holding.held c.old)) }
+    ensures does { Does C.make C.held c.old c.new result (parts_of (C.drawn (C.make c.old)) order single bits limit (C.held c.old)) }
 {
     if bits <= single {
         return draw_part(c, order, bits, limit);
@@ -70,7 +70,7 @@ pub fn uniform_bits<C: CanDraw>(
     bits: u64,
     limit: u64,
 ) -> Result<u64, Refusal>
-    ensures does { Does C.Holding.make C.Holding.held c.old c.new result (uniform_of (C.CanDraw.drawn (C.Holding.make c.old)) order single (C.Holding.held c.old) bits limit) }
+    ensures does { Does C.make C.held c.old c.new result (uniform_of (C.drawn (C.make c.old)) order single (C.held c.old) bits limit) }
 {
     if !few_bits(order, bits) {
         return Err(Refusal::Bits);

@@ -5,10 +5,10 @@ use Rattle.std.proofs.lemmas.List.FromFn.{fill_by_all}
 use Rattle.sha256.specs.declared.Words.{Words}
 use Rattle.sha256.specs.Sha256.{◌⊞◌, σ0, σ1, K, round, rounds, schedule, extended, next, word, words}
 
-pub more_rounds : (ws : List ℕ) (s : Words) (t u : ℕ) (k : ℕ) (v v' : Words)
-    → v ≡ rounds t ws s → k ≡ get_or K t 0 → v' ≡ round k (get_or ws t 0) v → suc t ≡ u → v' ≡ rounds u ws s
+pub more_rounds : (ws : List ℕ) (s : Words) (t u : ℕ) (v v' : Words)
+    → v ≡ rounds t ws s → v' ≡ round (get_or K t 0) (get_or ws t 0) v → suc t ≡ u → v' ≡ rounds u ws s
 unfolding rounds
-more_rounds ws s t u k v v' p q r e = r ∙ ap₂ (λ k v. round k (get_or ws t 0) v) q p ∙ ap (λ u. rounds u ws s) e
+more_rounds ws s t u v v' p r e = r ∙ ap (round (get_or K t 0) (get_or ws t 0)) p ∙ ap (λ u. rounds u ws s) e
 
 pub first-words : (bs w : List ℕ) (t : ℕ) → length w ≡ 64 → t ≡ 16 → ((k : ℕ) → k < t → get_or w k 0 ≡ word bs k) → take 16 w ≡ words bs
 unfolding words
@@ -53,10 +53,10 @@ kept n (suc d) i m h =
 abbrev pub Ahead : List ℕ → List ℕ → Words → Words → ℕ → Type 0
 Ahead m w s v t = (length w ≡ 64) × (length m ≡ 16) × (take (t + 16) w ≡ schedule t m) × (v ≡ rounds t (schedule 48 m) s)
 
-pub more_ahead : (m w w' : List ℕ) (s v v' : Words) (t u k : ℕ) → Ahead m w s v t → t < 48
-    → w' ≡ set w (t + 16) (next w (t + 16)) → k ≡ get_or K t 0 → v' ≡ round k (get_or w' t 0) v → suc t ≡ u → Ahead m w' s v' u
+pub more_ahead : (m w w' : List ℕ) (s v v' : Words) (t u : ℕ) → Ahead m w s v t → t < 48
+    → w' ≡ set w (t + 16) (next w (t + 16)) → v' ≡ round (get_or K t 0) (get_or w' t 0) v → suc t ≡ u → Ahead m w' s v' u
 unfolding schedule
-more_ahead m w w' s v v' t u k (n, n16, p, q) h e f g up =
+more_ahead m w w' s v v' t u (n, n16, p, q) h e g up =
     let i = t + 16 in
     let x = next w i in
     let in-w : i < length w = omega arith in
@@ -72,7 +72,7 @@ more_ahead m w w' s v v' t u k (n, n16, p, q) h e f g up =
       ap length e ∙ length-set w i x ∙ n,
       n16,
       ap₂ take (sym one) e ∙ more ∙ ap (λ j. schedule j m) up,
-      more_rounds (schedule 48 m) s t u k v v' q f (g ∙ ap (λ y. round k y v) word_is) up,
+      more_rounds (schedule 48 m) s t u v v' q (g ∙ ap (λ y. round (get_or K t 0) y v) word_is) up,
     )
 
 -- past the 48th round all words are made

@@ -105,13 +105,8 @@ fn block_words(block: &[u8; 64]) -> [u32; 64]
     ensures { take 16 result ≡ words block.now }
 {
     let mut w = [0u32; 64];
-    for t in 0..16 {
-        w[t] = u32::from_be_bytes([
-            block[4 * t],
-            block[4 * t + 1],
-            block[4 * t + 2],
-            block[4 * t + 3],
-        ]);
+    for (t, bytes) in block.as_chunks::<4>().0.iter().enumerate() {
+        w[t] = u32::from_be_bytes(*bytes);
     }
     w
 }

@@ -3,7 +3,7 @@ use Rattle.std.proofs.Common.{◌≡◌, ℕ, zero, suc, ◌+◌, ◌-◌, ◌<�
 use Rattle.std.proofs.lemmas.List.{take_more_set, get_or-take, take_all, length-take-le, length-set, length-append, get_or_append_left, get_or-set_other}
 use Rattle.std.proofs.lemmas.List.FromFn.{fill_by_all}
 use Rattle.sha256.specs.declared.Words.{Words}
-use Rattle.sha256.specs.Sha256.{◌⊞◌, σ0, σ1, K, round, rounds, schedule, extended, next, word, words}
+use Rattle.sha256.specs.Sha256.{K, round, rounds, schedule, extended, next, word, words}
 
 pub more_rounds : (ws : List ℕ) (s : Words) (t u : ℕ) (v v' : Words)
     → v ≡ rounds t ws s → v' ≡ round (get_or K t 0) (get_or ws t 0) v → suc t ≡ u → v' ≡ rounds u ws s
@@ -15,16 +15,6 @@ unfolding words
 first-words bs w t n e p =
     fill_by_all (word bs) (take 16 w) 16 0 (length-take-le 16 w (omega arith))
     (λ k h. get_or-take 16 w k 0 h ∙ p k (omega arith))
-
--- the word at t + 16, as `extend` reads those before it
-pub next_is : (w : List ℕ) (t a b : ℕ) → a ≡ σ1 (get_or w (t + 14) 0) → b ≡ σ0 (get_or w (t + 1) 0)
-    → a ⊞ get_or w (t + 9) 0 ⊞ b ⊞ get_or w t 0 ≡ next w (t + 16)
-next_is w t a b p q =
-    let i : t + 14 ≡ t + 16 - 2 = omega arith in
-    let j : t + 9 ≡ t + 16 - 7 = omega arith in
-    let k : t + 1 ≡ t + 16 - 15 = omega arith in
-    let l : t ≡ t + 16 - 16 = omega arith in
-    cc
 
 next-take : (w : List ℕ) (i : ℕ) → 16 ≤ i → next (take i w) i ≡ next w i
 next-take w i lo =

@@ -208,18 +208,19 @@ fn absorb(s: Words, blocks: &[[u8; 64]]) -> Words
 fn digest_bytes(s: Words) -> [u8; 32]
     ensures { result ≡ bytes s }
 {
-    let [a0, a1, a2, a3] = s.a.to_be_bytes();
-    let [b0, b1, b2, b3] = s.b.to_be_bytes();
-    let [c0, c1, c2, c3] = s.c.to_be_bytes();
-    let [d0, d1, d2, d3] = s.d.to_be_bytes();
-    let [e0, e1, e2, e3] = s.e.to_be_bytes();
-    let [f0, f1, f2, f3] = s.f.to_be_bytes();
-    let [g0, g1, g2, g3] = s.g.to_be_bytes();
-    let [h0, h1, h2, h3] = s.h.to_be_bytes();
-    [
-        a0, a1, a2, a3, b0, b1, b2, b3, c0, c1, c2, c3, d0, d1, d2, d3, e0, e1, e2, e3, f0, f1, f2,
-        f3, g0, g1, g2, g3, h0, h1, h2, h3,
-    ]
+    let words = [
+        s.a.to_be_bytes(),
+        s.b.to_be_bytes(),
+        s.c.to_be_bytes(),
+        s.d.to_be_bytes(),
+        s.e.to_be_bytes(),
+        s.f.to_be_bytes(),
+        s.g.to_be_bytes(),
+        s.h.to_be_bytes(),
+    ];
+    let mut digest = [0; 32];
+    digest.copy_from_slice(words.as_flattened());
+    digest
 }
 
 /// The bytes after the last whole block of a message of `len` bytes, then the ending, up to `end`.

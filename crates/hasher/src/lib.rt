@@ -1,7 +1,7 @@
 //! Hash functions on bytes, by what they mean.
 #![tactic(auto)]
 
-ghost use Rattle.std.specs.Prelude.{◌≡◌, ℕ, ◌+◌, ◌<◌, ◌≤◌, List, length};
+ghost use Rattle.std.specs.Prelude.{◌≡◌, ℕ, ◌+◌, ◌-◌, ◌<◌, ◌≤◌, List, ◌∷◌, ◌++◌, length, replicate};
 ghost use Rattle.std.proofs.Math.Seq.{paste};
 ghost use Rattle.hasher.specs.Hashing.{Hashing};
 
@@ -26,4 +26,15 @@ pub fn put(to: &mut [u8], at: usize, from: &[u8])
     if at <= to.len() && from.len() <= to.len() - at {
         to[at..at + from.len()].copy_from_slice(from);
     }
+}
+
+/// The bytes of `rest`, then `mark`, then zeros: how a last block begins.
+pub fn marked<const N: usize>(rest: &[u8], mark: u8) -> [u8; N]
+    requires { length rest.now < N }
+    ensures { result ≡ rest.now ++ mark ∷ replicate (N - 1 - length rest.now) 0 }
+{
+    let mut block = [0; N];
+    put(&mut block, 0, rest);
+    block[rest.len()] = mark;
+    block
 }

@@ -1,34 +1,24 @@
 -- The ending of the last block, and the blocks of the padded message.
-use Rattle.std.proofs.Common.{◌≡◌, ℕ, suc, ◌+◌, ◌-◌, ◌*◌, ◌/◌, ◌%◌, ◌^◌, ◌<◌, ◌≤◌, List, ◌∷◌, ◌++◌, length, take, drop, set, replicate, sym, refl, ap, ◌∙◌, ap₂, zero-add, arith}
+use Rattle.std.proofs.Common.{◌≡◌, ℕ, ◌+◌, ◌-◌, ◌*◌, ◌/◌, ◌%◌, ◌^◌, ◌≤◌, List, ◌∷◌, ◌++◌, length, take, drop, replicate, sym, refl, ap, ◌∙◌, ap₂, arith}
 use Rattle.std.proofs.Math.Seq.{paste}
 use Rattle.std.specs.Simd.{first_chunks}
-use Rattle.std.proofs.lemmas.List.{append_assoc, length-append, length-replicate, take_at, drop-replicate, set_at, replicate-append-replicate}
+use Rattle.std.proofs.lemmas.List.{append_assoc, length-append, length-replicate, take_at, replicate-append-replicate}
 use Rattle.std.proofs.lemmas.List.Edits.{paste_all}
 use Rattle.hasher.proofs.Blocks.{chunked-++}
 use Rattle.sha256.specs.Sha256.{be64, ending, padded, blocks}
 
-one_less : (size n : ℕ) → n < size → size - n ≡ suc (size - 1 - n)
-one_less size n h = omega arith
-
 zeros-left : (size end n : ℕ) → n + 9 ≤ end → end ≤ size → size - 1 - n ≡ end - 9 - n + (size + 8 - end)
 zeros-left size end n lo hi = omega arith
 
--- `rest`, the byte 128, zeros and eight bytes, as `last_blocks` writes them over `size` zeros
+-- `rest`, the byte 128, zeros and eight bytes, as `last_blocks` writes them
 module _ (size : ℕ) (rest bits : List ℕ) (end : ℕ) (lo : length rest + 9 ≤ end) (hi : end ≤ size) (eight : length bits ≡ 8) where
-  started : set (paste (replicate size 0) 0 rest (length rest)) (length rest) 128
-      ≡ (rest ++ 128 ∷ replicate (end - 9 - length rest) 0) ++ replicate (size + 8 - end) 0
+  started : rest ++ 128 ∷ replicate (size - 1 - length rest) 0 ≡ (rest ++ 128 ∷ replicate (end - 9 - length rest) 0) ++ replicate (size + 8 - end) 0
   started =
       let n = length rest in
-      let z = one_less size n (omega arith) in
-      let sum = zeros-left size end n lo hi in
-      let whole : paste (replicate size 0) 0 rest n ≡ rest ++ 0 ∷ replicate (size - 1 - n) 0 =
-      paste_all (replicate size 0) 0 rest n refl
-      ∙ ap (λ ys. rest ++ ys) (ap (λ i. drop i (replicate size 0)) (zero-add n) ∙ drop-replicate n size 0 ∙ ap (λ i. replicate i 0) z) in
-      ap (λ l. set l n 128) whole ∙ set_at rest 0 (replicate (size - 1 - n) 0) 128 n refl
-      ∙ ap (λ ys. rest ++ 128 ∷ ys) (ap (λ i. replicate i 0) sum ∙ sym (replicate-append-replicate (end - 9 - n) (size + 8 - end) 0))
+      ap (λ ys. rest ++ 128 ∷ ys) (ap (λ i. replicate i 0) (zeros-left size end n lo hi) ∙ sym (replicate-append-replicate (end - 9 - n) (size + 8 - end) 0))
       ∙ sym (append_assoc rest (128 ∷ replicate (end - 9 - n) 0) (replicate (size + 8 - end) 0))
 
-  pub filled : take end (paste (set (paste (replicate size 0) 0 rest (length rest)) (length rest) 128) (end - 8) bits 8)
+  pub filled : take end (paste (rest ++ 128 ∷ replicate (size - 1 - length rest) 0) (end - 8) bits 8)
       ≡ rest ++ ((128 ∷ replicate (end - 9 - length rest) 0) ++ bits)
   filled =
       let front : List ℕ = rest ++ 128 ∷ replicate (end - 9 - length rest) 0 in
@@ -57,12 +47,12 @@ be64_bits n =
 
 -- the same, by the calls of `last_blocks`
 pub last_is : (rest mid bits last : List ℕ) (end len : ℕ) → length rest + 9 ≤ end → end ≤ 128
-    → mid ≡ paste (replicate 128 0) 0 rest (length rest) → bits ≡ be64 (8 * len)
-    → last ≡ paste (set mid (length rest) 128) (end - 8) bits (length bits)
+    → mid ≡ rest ++ 128 ∷ replicate (127 - length rest) 0 → bits ≡ be64 (8 * len)
+    → last ≡ paste mid (end - 8) bits (length bits)
     → take end last ≡ rest ++ ending (end - 9 - length rest) len
 unfolding ending
 last_is rest mid bits last end len lo hi p q r =
-    ap (take end) (r ∙ ap₂ (λ m b. paste (set m (length rest) 128) (end - 8) b (length b)) p q)
+    ap (take end) (r ∙ ap₂ (λ m b. paste m (end - 8) b (length b)) p q)
     ∙ filled 128 rest (be64 (8 * len)) end lo hi refl
 
 -- the whole blocks of the message, and then those of what is left of it with the ending, are the blocks of the padded message

@@ -7,7 +7,7 @@ ghost use Rattle.sha256.specs.Sha256.{Ch, Maj, shr, K, round, rounds, schedule, 
 ghost use Rattle.sha256.specs.Example.{abc, «abc_digest»};
 ghost use Rattle.sha256.specs.Sha256Law.{«sha256_hashing»};
 
-use hasher::{CryptographicHasher, put};
+use hasher::{CryptographicHasher, marked, put};
 
 /// Eight words: the hash value, or the working variables.
 #[derive(Clone, Copy)]
@@ -229,9 +229,7 @@ fn last_blocks(rest: &[u8], len: u64, end: usize) -> [u8; 128]
     requires two_blocks { end ≤ 128 }
     ensures { take end result ≡ rest.now ++ ending (end - 9 - length rest.now) len }
 {
-    let mut last = [0u8; 128];
-    put(&mut last, 0, rest);
-    last[rest.len()] = 0x80;
+    let mut last = marked::<128>(rest, 0x80);
     put(&mut last, end - 8, &len.wrapping_mul(8).to_be_bytes());
     last
 }
@@ -248,6 +246,7 @@ pub fn hash(input: &[u8]) -> [u8; 32]
 }
 
 /// The digest of the bytes "abc", the first example of the standard.
+// Kept as a function of each hash: each states the digest of its own standard, and one call is all that they share.
 pub fn hash_abc() -> [u8; 32]
     ensures definition { result ≡ sha256 abc }
     ensures example { result ≡ «abc_digest» }

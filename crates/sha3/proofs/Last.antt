@@ -1,25 +1,16 @@
 -- The last block, and the blocks of the padded message.
-use Rattle.std.proofs.Common.{◌≡◌, ℕ, suc, ◌+◌, ◌-◌, ◌*◌, ◌/◌, ◌%◌, ◌<◌, List, [], ◌∷◌, ◌++◌, length, get_or, take, drop, set, replicate, sym, refl, ap, ◌∙◌, ap₂, zero-add, bit_or, arith}
-use Rattle.std.proofs.Math.Seq.{paste}
+use Rattle.std.proofs.Common.{◌≡◌, ℕ, ◌+◌, ◌-◌, ◌*◌, ◌/◌, ◌%◌, ◌<◌, List, [], ◌∷◌, ◌++◌, length, get_or, take, drop, set, replicate, sym, refl, ap, ◌∙◌, ap₂, bit_or, arith}
 use Rattle.std.specs.Simd.{first_chunks}
-use Rattle.std.proofs.lemmas.List.{length-append, length-replicate, length-drop, length-set, take_all, drop-replicate, set_at, set-append_right, get_or-append_right}
-use Rattle.std.proofs.lemmas.List.Edits.{paste_all}
+use Rattle.std.proofs.lemmas.List.{length-append, length-replicate, length-drop, length-set, take_all, set-append_right, get_or-append_right}
 use Rattle.hasher.proofs.Blocks.{chunked-++}
 use Rattle.sha3.specs.Sha3.{closed, padded, blocks}
 
-pub last_is : (rest mid : List ℕ) → length rest < 136 → mid ≡ paste (replicate 136 0) 0 rest (length rest)
-    → set (set mid (length rest) 6) 135 (bit_or (get_or (set mid (length rest) 6) 135 0) 128)
-    ≡ rest ++ closed (6 ∷ replicate (135 - length rest) 0)
-last_is rest mid h p =
+pub last_is : (rest mid : List ℕ) → length rest < 136 → mid ≡ rest ++ 6 ∷ replicate (135 - length rest) 0
+    → set mid 135 (bit_or (get_or mid 135 0) 128) ≡ rest ++ closed (6 ∷ replicate (135 - length rest) 0)
+last_is rest mid h begun =
     let n = length rest in
     let zs : List ℕ = replicate (135 - n) 0 in
-    let one : 136 - n ≡ suc (135 - n) = omega arith in
     let at : 135 - n ≡ length (6 ∷ zs) - 1 = simp length-replicate (omega arith) in
-    let begun : set mid n 6 ≡ rest ++ 6 ∷ zs =
-    ap (λ l. set l n 6)
-    (p ∙ paste_all (replicate 136 0) 0 rest n refl
-    ∙ ap (λ ys. rest ++ ys) (ap (λ i. drop i (replicate 136 0)) (zero-add n) ∙ drop-replicate n 136 0 ∙ ap (λ i. replicate i 0) one))
-    ∙ set_at rest 0 zs 6 n refl in
     ap (λ l. set l 135 (bit_or (get_or l 135 0) 128)) begun
     ∙ set-append_right rest (6 ∷ zs) n 135 _ refl (omega arith)
     ∙ ap (λ x. rest ++ set (6 ∷ zs) (135 - n) (bit_or x 128)) (get_or-append_right rest (6 ∷ zs) n 135 0 refl (omega arith))

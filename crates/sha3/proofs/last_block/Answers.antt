@@ -3,4 +3,4 @@ use Rattle.sha3.proofs.Last.{last_is}
 use Rattle.sha3.proofs.last_block.Goals as goal
 
 pub returns : goal.returns
-returns c = last_is c.args.rest.now c.put.new.to (omega arith) (c.put.ensures.written (omega arith))
+returns c = last_is c.args.rest.now c.marked-last.result (omega arith) c.marked-last.ensures

@@ -49,9 +49,9 @@ pub fn permute(a: [u64; 25]) -> [u64; 25]
     ensures { result ≡ «keccak_f» a }
 {
     let mut s = a;
-    for i in 0..12 {
-        s = one_round::<0>(&s, ROUND_CONSTANTS[2 * i]);
-        s = one_round::<1>(&s, ROUND_CONSTANTS[2 * i + 1]);
+    for pair in ROUND_CONSTANTS.as_chunks::<2>().0 {
+        s = one_round::<0>(&s, pair[0]);
+        s = one_round::<1>(&s, pair[1]);
     }
     s
 }

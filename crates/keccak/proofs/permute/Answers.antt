@@ -1,23 +1,19 @@
-use Rattle.std.proofs.Common.{◌≡◌, ℕ, ◌+◌, ◌*◌, ◌<◌, List, length, get_or, take, fold, sym, ap, ◌∙◌, arith}
+use Rattle.std.proofs.Common.{[], get_or, fold, sym, ap, ◌∙◌}
 use Rattle.std.proofs.lemmas.List.{take_all}
 use Rattle.std.proofs.lemmas.List.Sums.{fold_more}
 use Rattle.keccak_spec.specs.Keccak.{round, constants, keccak_f}
+use Rattle.keccak.proofs.Pairs.{two_rounds}
 use Rattle.keccak.proofs.permute.Goals as goal
 
--- one round more
-more : (a s r : List ℕ) (n : ℕ) → s ≡ fold round a (take n constants) → n < length constants → r ≡ round s (get_or constants n 0)
-    → r ≡ fold round a (take (n + 1) constants)
-more a s r n p h q = q ∙ ap (λ s. round s (get_or constants n 0)) p ∙ sym (fold_more round a constants n 0 h)
-
-pub loop-i-preserved : goal.loop-i-preserved
-unfolding constants
-loop-i-preserved c =
-    let a = c.args.a in
-    let n = 2 * c.loop-i.i in
-    let two : n + 1 + 1 ≡ 2 * (c.loop-i.i + 1) = omega arith in
-    let first = more a _ _ n c.loop-i.invariant (omega arith) c.one_round-s.ensures in
-    more a _ _ (n + 1) first (omega arith) c.one_round-s-in-loop-i.ensures ∙ ap (λ n. fold round a (take n constants)) two
+pub loop-pair-preserved : goal.loop-pair-preserved
+loop-pair-preserved c =
+    let pairs = c.as_chunks.result.0.now in
+    let i = c.loop-pair.pair-index in
+    let pair = get_or pairs i [] in
+    c.one_round-s-in-loop-pair.ensures ∙ ap (λ s. round s (get_or pair 1 0)) c.one_round-s.ensures ∙ ap (λ s. two_rounds s pair) c.loop-pair.invariant
+    ∙ sym (fold_more two_rounds c.args.a pairs i [] c.loop-pair-test.true)
 
 pub returns : goal.returns
 unfolding constants keccak_f
-returns c = c.loop-i.invariant ∙ ap (fold round c.args.a) (take_all (2 * c.loop-i.i) constants (omega arith))
+returns c =
+    c.loop-pair.invariant ∙ ap (fold two_rounds c.args.a) (take_all c.loop-pair.pair-index c.as_chunks.result.0.now c.loop-pair-test.false ∙ c.as_chunks.ensures.front)

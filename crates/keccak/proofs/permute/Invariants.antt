@@ -1,6 +1,6 @@
-use Rattle.std.proofs.Common.{◌≡◌, ◌*◌, take, fold}
-use Rattle.keccak_spec.specs.Keccak.{round, constants}
+use Rattle.std.proofs.Common.{◌≡◌, take, fold}
+use Rattle.keccak.proofs.Pairs.{two_rounds}
 use Rattle.keccak.proofs.permute.Given as goal
 
-abbrev pub invariant-loop-i : goal.invariant-loop-i
-invariant-loop-i l = l.s ≡ fold round l.initial.s (take (2 * l.i) constants)
+abbrev pub invariant-loop-pair : goal.invariant-loop-pair
+invariant-loop-pair l = l.s ≡ fold two_rounds l.initial.s (take l.pair-index l.pair-items)

@@ -18,19 +18,12 @@ fn chain<H: CryptographicHasher<32>>(h: &H, count: u32) -> [u8; 32] {
 }
 
 fn main(rt: HostRuntime) -> io::Result<()> {
-    let mut args = env::args(&rt)?;
-    let _ = args.next();
+    let mut args = env::args(&rt)?.skip(1);
     let name = args.next();
-    let count = match args.next() {
-        Some(word) => word.parse::<u32>().unwrap_or(0),
-        None => 0,
-    };
-    let digest = match name {
-        Some(word) => if word.as_str() == "sha3" {
-            chain(&Sha3_256, count)
-        } else {
-            chain(&Sha256, count)
-        },
+    let count = args.next().and_then(|word| word.parse().ok()).unwrap_or(0);
+    let digest = match name.as_deref() {
+        Some("sha3") => chain(&Sha3_256, count),
+        Some(_) => chain(&Sha256, count),
         None => [0; 32],
     };
     println!(rt; "{digest:?}")

@@ -3,17 +3,18 @@ use Rattle.std.specs.Prelude.{ℕ, ◌+◌, ◌-◌, ◌*◌, List, length, take
 use Rattle.hash_state.specs.declared.HashState.{HashState}
 use Rattle.hash_state.specs.declared.Prepared.{Prepared}
 use Rattle.hash_state.specs.declared.held.HashHeld.{HashHeld}
+use Rattle.hash_state.specs.Listed.{listed}
 use Rattle.hash_state.specs.Rules.{holding}
 
 abbrev pub held : HashState → HashHeld
-held s = holding (take s.count s.input) (take s.left s.input)
+held s = holding (listed s.input) (take s.left (listed s.input))
 
 -- a prepared input, without and with what stands in the four places
 abbrev pub front : Prepared → List ℕ
-front p = take p.count p.bytes
+front p = take (p.bytes.count - 4) (listed p.bytes)
 
 abbrev pub whole : Prepared → List ℕ
-whole p = take (p.count + 4) p.bytes
+whole p = listed p.bytes
 
 -- the last four bytes, the last one least significant
 abbrev pub end_word : List ℕ → ℕ

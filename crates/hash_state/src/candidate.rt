@@ -5,7 +5,7 @@ ghost use Rattle.hash_state.specs.Rules.{room};
 ghost use Rattle.hash_state.specs.Holds.{held, front, whole, end_word};
 
 use crate::{HashState, Prepared};
-use hasher::{CryptographicHasher, put};
+use hasher::CryptographicHasher;
 
 /// The word of a slice's last four bytes, the last one least significant.
 fn end_word(bytes: &[u8]) -> u32
@@ -26,10 +26,9 @@ impl Prepared {
         if state.room() < 4 {
             return None;
         }
-        Some(Prepared {
-            bytes: state.input,
-            count: state.count,
-        })
+        let mut bytes = state.input;
+        bytes.append(&[0; 4]);
+        Some(Prepared { bytes })
     }
 
     /// Writes the candidate's bytes, least significant first, into the four places.
@@ -37,14 +36,14 @@ impl Prepared {
         ensures front { front self.new ≡ front self.old }
         ensures whole { whole self.new ≡ front self.old ++ le_bytes candidate }
     {
-        put(&mut self.bytes, self.count, &candidate.to_le_bytes());
+        self.bytes.replace_end(&candidate.to_le_bytes());
     }
 
     /// The input with what stands in the four places.
     fn bytes(&self) -> &[u8]
         ensures { result.now ≡ whole self.now }
     {
-        &self.bytes[..self.count + 4]
+        self.bytes.as_slice()
     }
 
     /// Does the mask make 0 of the word that the digest of the input and the candidate's bytes ends with? One hash.

@@ -4,8 +4,8 @@ ghost use Rattle.interface.specs.Meaning.{observe_of};
 ghost use Rattle.hash_state.specs.Rules.{holding, fresh, room, sound, appended, observed, ready, sample_of, last_output, without_output};
 ghost use Rattle.hash_state.specs.Holds.{held};
 
-use crate::HashState;
-use hasher::{CryptographicHasher, put};
+use crate::{ByteList, HashState};
+use hasher::CryptographicHasher;
 use refusal::Refusal;
 
 impl HashState {
@@ -13,36 +13,27 @@ impl HashState {
     pub fn new(initial: &[u8]) -> Result<HashState, Refusal>
         ensures { MatchResult result (λ s. (nat_le (length initial.now) 1024 ≡ true) × (held s ≡ fresh initial.now)) (λ e. (nat_le (length initial.now) 1024 ≡ false) × (e ≡ InitialState)) }
     {
-        if initial.len() > 1024 {
-            return Err(Refusal::InitialState);
-        }
-        let mut input = [0; 1024];
-        put(&mut input, 0, initial);
-        Ok(HashState {
-            input,
-            count: initial.len(),
-            left: 0,
-        })
+        let input = ByteList::new(initial).ok_or(Refusal::InitialState)?;
+        Ok(HashState { input, left: 0 })
     }
 
     /// How many bytes may still be observed.
     pub fn room(&self) -> usize
         ensures { result ≡ room (held self.now) }
     {
-        1024 - self.count
+        self.input.room()
     }
 
     /// Appends bytes that fit, and drops the outputs; no bytes change nothing.
     fn append(&mut self, bytes: &[u8])
-        requires fits { self.old.count + length bytes.now ≤ 1024 }
+        requires fits { self.old.input.count + length bytes.now ≤ 1024 }
         ensures { held self.new ≡ appended (held self.old) bytes.now }
     {
-        if bytes.len() == 0 {
+        if bytes.is_empty() {
             return;
         }
-        put(&mut self.input, self.count, bytes);
-        self.count += bytes.len();
         self.left = 0;
+        self.input.append(bytes);
     }
 
     /// Observes all the bytes, or none if they exceed the room.
@@ -57,17 +48,6 @@ impl HashState {
         Ok(())
     }
 
-    /// The input and the outputs become a digest.
-    fn replace(&mut self, digest: &[u8])
-        requires few { length digest.now ≤ 64 }
-        ensures state { held self.new ≡ holding digest.now digest.now }
-        ensures left { self.new.left ≡ length digest.now }
-    {
-        put(&mut self.input, 0, digest);
-        self.count = digest.len();
-        self.left = digest.len();
-    }
-
     /// With no output left, the input and the outputs become the digest of the input.
     fn prepare<H: CryptographicHasher<N>, const N: usize>(&mut self, hasher: &H)
         ensures state { held self.new ≡ ready H.digest (held self.old) }
@@ -77,7 +57,8 @@ impl HashState {
             return;
         }
         let digest = hasher.hash(self.input());
-        self.replace(&digest);
+        self.input.replace(&digest);
+        self.left = N;
     }
 
     /// Takes the last output.
@@ -87,7 +68,7 @@ impl HashState {
         ensures state { held self.new ≡ without_output (held self.old) }
     {
         self.left -= 1;
-        self.input[self.left]
+        self.input.as_slice()[self.left]
     }
 
     /// The last output, after a draw if none is left. What is held is one of the values that can be.
@@ -104,14 +85,14 @@ impl HashState {
     pub fn input(&self) -> &[u8]
         ensures { result.now ≡ (held self.now).input }
     {
-        &self.input[..self.count]
+        self.input.as_slice()
     }
 
     /// The outputs not yet taken, to be read.
     pub fn outputs(&self) -> &[u8]
         ensures { result.now ≡ (held self.now).outputs }
     {
-        &self.input[..self.left]
+        &self.input.as_slice()[..self.left]
     }
 
     /// Do both hold the same?

@@ -4,14 +4,6 @@
 ghost use Rattle.std.specs.Prelude.{◌≡◌};
 ghost use Rattle.keccak_spec.specs.Keccak.{ρπ};
 
-// A rotation to the left, written out so that a proof reads operators and not calls.
-macro_rules! rotated {
-    ($x:expr, $k:expr) => {{
-        let x = $x;
-        (x << $k) | (x >> ((64 - $k) % 64))
-    }};
-}
-
 /// Each lane from its source lane, rotated by that one's offset.
 // Kept as 25 lanes written out: with `array::from_fn` over them the permutation ran at a quarter of its speed, which misses the bar.
 // Each number `COPY` is code of its own, which the compiler can then put into its one place.
@@ -19,30 +11,30 @@ pub fn rho_pi<const COPY: usize>(a: &[u64; 25]) -> [u64; 25]
     ensures { result ≡ ρπ a.now }
 {
     [
-        rotated!(a[0], 0),
-        rotated!(a[6], 44),
-        rotated!(a[12], 43),
-        rotated!(a[18], 21),
-        rotated!(a[24], 14),
-        rotated!(a[3], 28),
-        rotated!(a[9], 20),
-        rotated!(a[10], 3),
-        rotated!(a[16], 45),
-        rotated!(a[22], 61),
-        rotated!(a[1], 1),
-        rotated!(a[7], 6),
-        rotated!(a[13], 25),
-        rotated!(a[19], 8),
-        rotated!(a[20], 18),
-        rotated!(a[4], 27),
-        rotated!(a[5], 36),
-        rotated!(a[11], 10),
-        rotated!(a[17], 15),
-        rotated!(a[23], 56),
-        rotated!(a[2], 62),
-        rotated!(a[8], 55),
-        rotated!(a[14], 39),
-        rotated!(a[15], 41),
-        rotated!(a[21], 2),
+        a[0].rotate_left(0),
+        a[6].rotate_left(44),
+        a[12].rotate_left(43),
+        a[18].rotate_left(21),
+        a[24].rotate_left(14),
+        a[3].rotate_left(28),
+        a[9].rotate_left(20),
+        a[10].rotate_left(3),
+        a[16].rotate_left(45),
+        a[22].rotate_left(61),
+        a[1].rotate_left(1),
+        a[7].rotate_left(6),
+        a[13].rotate_left(25),
+        a[19].rotate_left(8),
+        a[20].rotate_left(18),
+        a[4].rotate_left(27),
+        a[5].rotate_left(36),
+        a[11].rotate_left(10),
+        a[17].rotate_left(15),
+        a[23].rotate_left(56),
+        a[2].rotate_left(62),
+        a[8].rotate_left(55),
+        a[14].rotate_left(39),
+        a[15].rotate_left(41),
+        a[21].rotate_left(2),
     ]
 }

@@ -15,11 +15,11 @@ pub fn theta<const COPY: usize>(a: &[u64; 25]) -> [u64; 25]
     let c2 = a[2] ^ a[7] ^ a[12] ^ a[17] ^ a[22];
     let c3 = a[3] ^ a[8] ^ a[13] ^ a[18] ^ a[23];
     let c4 = a[4] ^ a[9] ^ a[14] ^ a[19] ^ a[24];
-    let d0 = c4 ^ ((c1 << 1) | (c1 >> 63));
-    let d1 = c0 ^ ((c2 << 1) | (c2 >> 63));
-    let d2 = c1 ^ ((c3 << 1) | (c3 >> 63));
-    let d3 = c2 ^ ((c4 << 1) | (c4 >> 63));
-    let d4 = c3 ^ ((c0 << 1) | (c0 >> 63));
+    let d0 = c4 ^ c1.rotate_left(1);
+    let d1 = c0 ^ c2.rotate_left(1);
+    let d2 = c1 ^ c3.rotate_left(1);
+    let d3 = c2 ^ c4.rotate_left(1);
+    let d4 = c3 ^ c0.rotate_left(1);
     [
         a[0] ^ d0,
         a[1] ^ d1,

@@ -40,6 +40,7 @@ impl<H: CryptographicHasher<N> + Drop, const N: usize> HashChallenger<H, N> {
     }
 }
 
+// Kept as the hasher and the held value in each clause: the quotes of `make` and `held` of `Holding`'s impl are longer.
 impl<H: CryptographicHasher<N>, const N: usize> HashChallenger<H, N> {
     /// Observes all the bytes, or none if they exceed the room.
     pub fn observe(&mut self, bytes: &[u8]) -> Result<(), Refusal>
@@ -49,6 +50,7 @@ impl<H: CryptographicHasher<N>, const N: usize> HashChallenger<H, N> {
     }
 
     /// Observes a digest: its bytes.
+    // Kept as a call of its own: a challenger has one for digests beside the one for bytes, and here both mean the same.
     pub fn observe_digest(&mut self, bytes: &[u8]) -> Result<(), Refusal>
         ensures does { Does (λ s. s.hasher) (λ s. held_in s.state) self.old self.new result (observe_of (observed (held_in self.old.state) bytes.now) (held_in self.old.state)) }
     {
@@ -123,9 +125,8 @@ impl<H: CryptographicHasher<N> + Copy, const N: usize> ByteGrindingChallenger
         if N < 4 {
             return find_by_trial(self, candidates, mask);
         }
-        let Some(mut prepared) = Prepared::new(&self.state) else {
-            return None;
-        };
+        let mut prepared = Prepared::new(&self.state)?;
+        // Kept as a loop: as a `find`, whose closure changes the prepared input, the proof of the same contract didn't close.
         for candidate in 0..counted(candidates) {
             if prepared.passes::<H, N>(&self.hasher, candidate as u32, mask) {
                 return Some(candidate);

@@ -12,10 +12,9 @@ fn end_word(bytes: &[u8]) -> u32
     requires four { 4 ≤ length bytes.now }
     ensures { result ≡ end_word bytes.now }
 {
-    match bytes {
-        [.., d, c, b, a] => u32::from_le_bytes([*a, *b, *c, *d]),
-        _ => 0,
-    }
+    bytes
+        .last_chunk::<4>()
+        .map_or(0, |last| u32::from_be_bytes(*last))
 }
 
 impl Prepared {

@@ -96,6 +96,7 @@ impl HashState {
     }
 
     /// Do both hold the same?
+    // Kept as a comparison of slices: a derived equality would also compare the cells past the count, which are not held.
     pub fn same_held(&self, other: &HashState) -> bool
         ensures { Decides result (held self.now ≡ held other.now) }
     {

@@ -15,7 +15,7 @@ returns-then-passes g c =
     let inv = c.loop-candidate.invariant in
     let is = c.passes.ensures.value ∙ passes_is t.digest t.hashing h _ mask w inv.0 (omega arith) in
     let lt : w < candidates_of c.args.candidates = omega arith in
-    sym (sought-some (hash_transcript t.digest t.hashing) h c.args.candidates mask w c.in-Some.ensures.0 lt inv.1 (sym is ∙ c.if-passes.true))
+    sym (sought-some (hash_transcript t.digest t.hashing) h c.args.candidates mask w c.in_ok-prepared.ensures.0 lt inv.1 (sym is ∙ c.if-passes.true))
 
 pub loop-candidate-preserved : goal.loop-candidate-preserved
 loop-candidate-preserved g c =
@@ -31,4 +31,4 @@ pub returns : goal.returns
 returns g c =
     let t = g.H.CryptographicHasher in
     let h = held c.args.self.now.state in
-    sym (sought-none (hash_transcript t.digest t.hashing) h c.args.candidates c.args.mask c.in-Some.ensures.0 (λ k lt. c.loop-candidate.invariant.1 k (omega arith)))
+    sym (sought-none (hash_transcript t.digest t.hashing) h c.args.candidates c.args.mask c.in_ok-prepared.ensures.0 (λ k lt. c.loop-candidate.invariant.1 k (omega arith)))

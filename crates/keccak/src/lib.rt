@@ -36,6 +36,7 @@ const ROUND_CONSTANTS: [u64; 24] = [
 ];
 
 /// One round, whose last step mixes the constant into the first lane.
+#[tactic(auto, unfolding(keccak_spec::specs::Keccak::round))]
 fn one_round<const COPY: usize>(a: &[u64; 25], constant: u64) -> [u64; 25]
     ensures { result ≡ round a.now constant }
 {

@@ -71,6 +71,7 @@ fn small_sigma<const A: u32, const B: u32, const C: u32>(x: u32) -> u32
     x.rotate_right(A) ^ x.rotate_right(B) ^ (x >> C)
 }
 
+#[tactic(auto, unfolding(crate::specs::Sha256::K))]
 fn round_constant(t: usize) -> u32
     requires { t < 64 }
     ensures { result ≡ slice_index K t }
@@ -78,6 +79,7 @@ fn round_constant(t: usize) -> u32
     ROUND_CONSTANTS[t]
 }
 
+#[tactic(auto, unfolding(crate::specs::Sha256::round))]
 fn one_round(s: Words, k: u32, w: u32) -> Words
     ensures { result ≡ round k w s }
 {
@@ -205,6 +207,7 @@ fn absorb(s: Words, blocks: &[[u8; 64]]) -> Words
     blocks.iter().fold(s, |h, block| compress(h, block))
 }
 
+#[tactic(auto, unfolding(crate::specs::Sha256::bytes))]
 fn digest_bytes(s: Words) -> [u8; 32]
     ensures { result ≡ bytes s }
 {

@@ -43,6 +43,7 @@ fn last_block(rest: &[u8]) -> [u8; 136]
 }
 
 /// The first four lanes, low bytes first.
+#[tactic(auto, unfolding(crate::specs::Sha3::squeezed))]
 fn squeeze(a: &[u64; 25]) -> [u8; 32]
     ensures { result ≡ squeezed a.now }
 {

@@ -183,6 +183,7 @@ fn last_rounds(made: Words, w: &[u32; 64]) -> Words
     v
 }
 
+#[tactic(auto, unfolding(crate::specs::Sha256::compressed))]
 fn compress(s: Words, block: &[u8; 64]) -> Words
     ensures { result ≡ compressed s block.now }
 {
@@ -227,6 +228,7 @@ fn digest_bytes(s: Words) -> [u8; 32]
 }
 
 /// The bytes after the last whole block of a message of `len` bytes, then the ending, up to `end`.
+#[tactic(auto, using(crate::proofs::Padding::last_is, crate::proofs::Padding::be64_bits))]
 fn last_blocks(rest: &[u8], len: u64, end: usize) -> [u8; 128]
     requires room { length rest.now + 9 ≤ end }
     requires two_blocks { end ≤ 128 }

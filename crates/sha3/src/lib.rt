@@ -22,6 +22,7 @@ fn mix(a: [u64; 25], block: &[u8; 136]) -> [u64; 25]
 
 /// Absorbs each block in turn.
 // Kept as a loop: as a fold over the blocks, whose state is an array, the proof of the same contract didn't close.
+#[tactic(auto, unfolding(crate::specs::Sha3::absorbed))]
 fn absorb(a: [u64; 25], blocks: &[[u8; 136]]) -> [u64; 25]
     ensures { result ≡ fold absorbed a blocks.now }
 {
@@ -33,6 +34,7 @@ fn absorb(a: [u64; 25], blocks: &[[u8; 136]]) -> [u64; 25]
 }
 
 /// The bytes after the last whole block, then the domain bits and the padding.
+#[tactic(auto, using(crate::proofs::Last::last_is))]
 fn last_block(rest: &[u8]) -> [u8; 136]
     requires { length rest.now < 136 }
     ensures { result ≡ rest.now ++ closed (6 ∷ replicate (135 - length rest.now) 0) }

@@ -21,8 +21,8 @@ module _ {n : ℕ} (digest : List ℕ → List ℕ) (hashing : Hashing n digest)
   puts-appended h [] = refl
   puts-appended h (b ∷ bs) = puts_on (h.input ++ (b ∷ [])) bs ∙ ap (λ l. holding l []) (append_assoc h.input (b ∷ []) bs)
 
-  pub observed-same : (h : HashHeld) (bs : List ℕ) → observed h bs ≡ bytes_observed (hash_transcript digest hashing) h bs
-  observed-same h bs = ap (λ g. cond (leb (length bs) (room h)) (Ok g) (Err Room)) (sym (puts-appended h bs))
+  pub observed_same : (h : HashHeld) (bs : List ℕ) → observed h bs ≡ bytes_observed (hash_transcript digest hashing) h bs
+  observed_same h bs = ap (λ g. cond (leb (length bs) (room h)) (Ok g) (Err Room)) (sym (puts-appended h bs))
 
   -- with j outputs left of a digest d
   module _ (d : List ℕ) (j : ℕ) (some : 0 < j) (within : j ≤ length d) where

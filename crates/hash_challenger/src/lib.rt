@@ -110,6 +110,7 @@ impl<H: CryptographicHasher<N>, const N: usize> ByteTranscript for HashChallenge
         self.state.room() as u64
     }
 
+    #[tactic(auto, using(crate::proofs::Transcripts::observed_same))]
     fn observe_bytes(&mut self, bytes: &[u8]) -> Result<(), Refusal> {
         self.observe(bytes)
     }

@@ -6,6 +6,7 @@ ghost use Rattle.permutation.specs.Rows.{Codes};
 
 mod methods;
 
+// Kept as a fixed array with a count: a challenger holds no heap memory and is copied as it stands.
 /// At most `N` codes of the domain of order `ORDER`: the first `count` cells.
 #[derive(Clone, Copy)]
 pub struct Buffer<const ORDER: u64, const N: usize> {

@@ -53,6 +53,7 @@ fn square_modulo(order: u64, a: u64) -> u64
     a * a % order
 }
 
+// Kept as four impls: each is a row of the rules' table, and what they compute is said once, above.
 /// The codes below 256.
 #[derive(Clone, Copy)]
 pub struct Bytes;

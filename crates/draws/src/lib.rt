@@ -16,6 +16,7 @@ pub trait CanDraw: Holding {
         ensures does { Does Self.make Self.held self.old self.new result (drawn (Self.make self.old) (Self.held self.old)) };
 }
 
+// Kept as a counted `loop` that yields by `break`, and with a pair as its refusal: the rules of the project name both forms.
 /// Draws until a value is below the bound, at most once and `more` times. Refused, it tells the value drawn last and the bound.
 pub fn draw_below<C: CanDraw>(c: &mut C, bound: u64, more: u64) -> Result<u64, (u64, u64)>
     ensures does { Does C.make C.held c.old c.new result (draw_below (C.drawn (C.make c.old)) bound more (C.held c.old)) }

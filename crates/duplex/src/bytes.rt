@@ -1,7 +1,7 @@
 // The duplex challenger over bytes, as a byte transcript.
 ghost use Rattle.std.specs.Prelude.{◌≡◌, ℕ, true, List, refl};
 ghost use Rattle.buffer.specs.Items.{items};
-ghost use Rattle.duplex.specs.Holds.{of_make};
+ghost use Rattle.sponge.specs.SpongeHeld.{of_make};
 ghost use Rattle.duplex.specs.Bytes.{byte_transcript};
 
 use crate::DuplexChallenger;

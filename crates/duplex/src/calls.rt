@@ -1,5 +1,5 @@
 // The calls as values.
-ghost use Rattle.duplex.specs.Holds.{of_make};
+ghost use Rattle.sponge.specs.SpongeHeld.{of_make};
 ghost use Rattle.duplex.specs.Calls.{rule as rule_of, stands as checks_stand};
 
 use crate::DuplexChallenger;

@@ -4,20 +4,20 @@ ghost use Rattle.refusal.specs.declared.Refusal.TheVariants.{Shape};
 ghost use Rattle.buffer.specs.Items.{items};
 ghost use Rattle.interface.specs.Meaning.{Does, observe_of};
 ghost use Rattle.runs.specs.Runs.{OneMake};
-ghost use Rattle.sponge.specs.SpongeHeld.{shaped};
+ghost use Rattle.sponge.specs.SpongeHeld.{shaped, made, of_make};
 ghost use Rattle.uniform.specs.Uniform.{uniform_of};
 ghost use Rattle.duplex.specs.Rules.{fresh as fresh_of, taken, turned, observed as observed_of, ready, sample_of, drawing as drawing_of, finalized};
-ghost use Rattle.duplex.specs.Holds.{made, of_make, held as held_in, make as make_of, making};
+ghost use Rattle.duplex.specs.Holds.{held as held_in, make as make_of, making};
 ghost use Rattle.duplex.specs.Calls.{rule as rule_of};
 
-use crate::{DuplexChallenger, DuplexHeld, DuplexMake};
+use crate::{DuplexChallenger, DuplexHeld};
 use buffer::Buffer;
 use domain::{Domain, all_codes};
 use draws::{CanDraw, low_bits};
 use interface::{CanObserve, CanSampleBits, Holding, few_bits};
 use permutation::CryptographicPermutation;
 use refusal::Refusal;
-use sponge::Sponge;
+use sponge::{Parameters, Sponge};
 use uniform::uniform_bits;
 
 impl<
@@ -48,7 +48,7 @@ impl<
 
 impl<D: Domain<ORDER>, P: CryptographicPermutation<D, ORDER>, const ORDER: u64> Holding
     for DuplexChallenger<D, P, ORDER> {
-    type Make = DuplexMake<P>;
+    type Make = Parameters<P>;
 
     type Held = DuplexHeld;
 
@@ -167,6 +167,7 @@ impl<D: Domain<ORDER>, P: CryptographicPermutation<D, ORDER>, const ORDER: u64> 
         uniform_bits(self, ORDER, D::single() as u64, bits, limit)
     }
 
+    // Kept as two comparisons: the two challengers may be of different types, which no derived equality compares.
     /// Have both the same WIDTH and RATE? Then, over equal arithmetic and permutations of equal image, they are of one make.
     pub fn same_numbers<E: Domain<ORDER>, Q: CryptographicPermutation<E, ORDER>>(
         &self,

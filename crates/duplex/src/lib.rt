@@ -17,7 +17,7 @@ mod grinding;
 mod held;
 
 pub use bytes::ByteDomain;
-pub use held::{DuplexHeld, DuplexMake};
+pub use held::DuplexHeld;
 
 /// The duplex challenger over a domain and a permutation of its rows: a sponge, and the codes that wait to be absorbed.
 #[derive(Drop)]

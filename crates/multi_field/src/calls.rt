@@ -1,5 +1,5 @@
 // The calls as values.
-ghost use Rattle.multi_field.specs.Holds.{of_make};
+ghost use Rattle.sponge.specs.SpongeHeld.{of_make};
 ghost use Rattle.multi_field.specs.Calls.{rule as rule_of, stands as checks_stand};
 
 use crate::MultiField32Challenger;

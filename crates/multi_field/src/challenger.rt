@@ -3,8 +3,9 @@ ghost use Rattle.std.specs.Prelude.{◌≡◌, ◌<◌, true, ◌&&◌, [], leng
 ghost use Rattle.buffer.specs.Items.{items};
 ghost use Rattle.interface.specs.Meaning.{Does, observe_of};
 ghost use Rattle.runs.specs.Runs.{OneMake};
+ghost use Rattle.sponge.specs.SpongeHeld.{made};
 ghost use Rattle.multi_field.specs.Rules.{fresh as fresh_of, taken, settled, digest_observed, squeezed, ready, sample_of, finalized};
-ghost use Rattle.multi_field.specs.Holds.{made, held as held_in, make as make_of, making, first_no};
+ghost use Rattle.multi_field.specs.Holds.{held as held_in, make as make_of, making, first_no};
 ghost use Rattle.multi_field.specs.Calls.{rule as rule_of};
 
 use crate::MultiField32Challenger;
@@ -161,6 +162,7 @@ impl<
         self.squeeze.pop()
     }
 
+    // Kept as two comparisons: the two challengers may be of different types, which no derived equality compares.
     /// Have both the same WIDTH and RATE? Then, over equal arithmetic and permutations of equal image, they are of one make.
     pub fn same_numbers<
         G: Domain<SAMPLED>,

@@ -1,13 +1,15 @@
 // What is held, observing, and drawing bits.
+ghost use Rattle.sponge.specs.SpongeHeld.{of_make};
 ghost use Rattle.multi_field.specs.Rules.{fresh as fresh_of, observed as observed_of, drawing as drawing_of};
-ghost use Rattle.multi_field.specs.Holds.{of_make, held as held_in, make as make_of};
+ghost use Rattle.multi_field.specs.Holds.{held as held_in, make as make_of};
 
-use crate::{MultiField32Challenger, MultiHeld, MultiMake};
+use crate::{MultiField32Challenger, MultiHeld};
 use domain::{Domain, all_codes};
 use draws::low_bits;
 use interface::{CanObserve, CanSampleBits, Holding, few_bits};
 use permutation::CryptographicPermutation;
 use refusal::Refusal;
+use sponge::Parameters;
 
 impl<
     F: Domain<SAMPLED>,
@@ -16,7 +18,7 @@ impl<
     const SAMPLED: u64,
     const ORDER: u64,
 > Holding for MultiField32Challenger<F, D, P, SAMPLED, ORDER> {
-    type Make = MultiMake<P>;
+    type Make = Parameters<P>;
 
     type Held = MultiHeld;
 

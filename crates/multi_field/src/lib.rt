@@ -18,7 +18,7 @@ mod grinding;
 mod held;
 mod interface_calls;
 
-pub use held::{MultiHeld, MultiMake};
+pub use held::MultiHeld;
 
 /// The multi-field challenger: a sponge whose words are codes of `D`, the scalars of `F` that wait to be absorbed, and those that wait to be sampled.
 #[derive(Drop)]

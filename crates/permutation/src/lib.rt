@@ -86,6 +86,7 @@ fn round<D: Domain<ORDER>, const ORDER: u64>(r: u64, row: &mut [u64])
     ensures { row.new ≡ ladder_steps D.arithmetic r (length row.old) row.old }
 {
     let last = row.len() - 1;
+    // Kept as an index: the rule of a step speaks of the cell's number.
     for i in 0..last {
         step::<D, ORDER>(row, r, i, i + 1);
     }

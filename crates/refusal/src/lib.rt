@@ -35,6 +35,7 @@ pub enum Refusal {
 }
 
 impl Refusal {
+    // Kept as numbers: the rules and the scripts name each question by its number.
     /// The number of the question that was failed.
     pub fn number(&self) -> u64
         ensures { result ≡ number self.now }
@@ -56,6 +57,7 @@ impl Refusal {
         }
     }
 
+    // Kept as a lent array with a count: a case has no array to lend, and a call does not allocate.
     /// Writes the values that the case carries to the front of `out`, and says how many they are.
     pub fn values(&self, out: &mut [u64; 2]) -> usize
         ensures count { result ≡ length (values self.now) }

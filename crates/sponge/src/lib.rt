@@ -12,8 +12,10 @@ use std::marker::PhantomData;
 
 mod both;
 mod moves;
+mod parameters;
 
 pub use both::turn_both;
+pub use parameters::Parameters;
 
 /// A row of `width` codes and its permutation. Blocks write the first `rate` cells, and outputs are read from them.
 #[derive(Drop)]

@@ -1,8 +1,14 @@
 // The prover's and the verifier's run of a script, side by side.
-use crate::making::{Mode, Part, make};
-use crate::playing::Sheet;
-use rehearsal::lines::{Numbered, call_of, parts, split_lines};
-use rehearsal::rehearse_unmade;
+ghost use Rattle.std.specs.Prelude.{◌≡◌};
+ghost use Rattle.script.specs.Meaning.{meaning};
+ghost use Rattle.player.specs.declared.agreement.Stop.TheVariants.{Memory};
+ghost use Rattle.player.specs.Admitted.{admitted};
+ghost use Rattle.player.specs.Spoken.{stop_words};
+
+use crate::making::{Playing, play_parts};
+use refusal::Refusal;
+use rehearsal::lines::{Numbered, Part, call_of, split_lines};
+use rehearsal::{Played, Table};
 use script::{Fault, Line, read_line};
 use std::alloc::{AllocError, Global};
 use std::fmt;
@@ -18,12 +24,16 @@ pub enum Stop<'a> {
 }
 
 impl From<AllocError> for Stop<'_> {
+    ghost from_gives = { λ _ r. r ≡ Memory };
+
     fn from(_e: AllocError) -> Self {
         Stop::Memory
     }
 }
 
 impl fmt::Display for Stop<'_> {
+    ghost output = { stop_words };
+
     fn fmt<W: fmt::Write>(&self, f: &mut fmt::Formatter<W>) -> fmt::Result {
         match self {
             Stop::Unreadable(line, fault) => write!(f, "line {line}: {fault}"),
@@ -34,15 +44,11 @@ impl fmt::Display for Stop<'_> {
 }
 
 /// Whether a line can stand in a script that is rehearsed.
-fn fits(line: &Line) -> bool {
+fn fits(line: &Line) -> bool
+    ensures { result ≡ admitted (meaning line.now) }
+{
     match line {
-        Line::Blank | Line::Held | Line::Finalize => true,
-        Line::MakeDuplex {
-            domain: _,
-            permutation: _,
-            width: _,
-            rate: _,
-        } => true,
+        Line::Blank | Line::Held | Line::Finalize | Line::MakeDuplex(_) => true,
         _ => call_of(line).is_some(),
     }
 }
@@ -62,31 +68,17 @@ fn admit<'a>(heap: Global, lines: &[Numbered<'a>]) -> Result<(), Stop<'a>> {
     Ok(())
 }
 
-fn rehearse_part<'a>(
-    heap: Global,
-    lines: &'a [Numbered<'a>],
-    sheet: &mut Sheet,
-) -> Result<(), AllocError> {
-    let Some((first, rest)) = lines.split_first() else {
-        return Ok(());
-    };
-    match read_line(heap, first.text) {
-        Ok(
-            Line::MakeDuplex {
-                domain,
-                permutation,
-                width,
-                rate,
-            },
-        ) => {
-            let part = Part {
-                mode: Mode::Agree,
-                make: *first,
-                lines: rest,
-            };
-            make(heap, domain, permutation, (width, rate), &part, sheet)
-        }
-        _ => rehearse_unmade(heap, lines, &mut sheet.answers),
+impl Playing for Table {
+    fn begin<C: Played + Copy>(&mut self, fresh: C, part: &Part<'_>) -> Result<(), AllocError> {
+        self.rehearse(fresh, part)
+    }
+
+    fn refuse(&mut self, refusal: &Refusal, part: &Part<'_>) -> Result<(), AllocError> {
+        self.refused(refusal, part)
+    }
+
+    fn idle(&mut self, lines: &[Numbered<'_>]) -> Result<(), AllocError> {
+        self.unmade(lines)
     }
 }
 
@@ -94,13 +86,9 @@ fn rehearse_part<'a>(
 pub fn agree<'a>(heap: Global, text: &'a str) -> Result<String, Stop<'a>> {
     let lines = split_lines(heap, text)?;
     admit(heap, lines.as_slice())?;
-    let all = parts(heap, lines.as_slice())?;
-    let mut sheet = Sheet {
-        answers: String::new(heap),
-        messages: String::new(heap),
+    let mut table = Table {
+        text: String::new(heap),
     };
-    for part in all.iter() {
-        rehearse_part(heap, *part, &mut sheet)?;
-    }
-    Ok(sheet.answers)
+    play_parts(heap, lines.as_slice(), &mut table)?;
+    Ok(table.text)
 }

@@ -1,132 +1,105 @@
-// The making of the challenger that a script asks for.
-use crate::playing::{Sheet, play, refuse};
-use domain::{BabyBear, Bytes, Goldilocks, KoalaBear};
+// The parts of a script, and the challengers that they make.
+use domain::{BabyBear, Bytes, Domain, Goldilocks, KoalaBear};
 use duplex::DuplexChallenger;
 use permutation::{Ladder, Mirror};
 use refusal::Refusal;
-use rehearsal::lines::Numbered;
-use rehearsal::{Played, rehearse};
-use script::{DomainName, PermutationName};
+use rehearsal::Played;
+use rehearsal::lines::{Numbered, Part};
+use script::{DomainName, DuplexParameters, Line, PermutationName, begins_make, read_line};
 use std::alloc::{AllocError, Global};
 
-/// What is done with a challenger that was made.
-#[derive(Clone, Copy)]
-pub enum Mode {
-    Run,
-    Agree,
+/// What is done with the parts of a script.
+pub trait Playing {
+    /// Goes on with the challenger that a part made.
+    fn begin<C: Played + Copy>(&mut self, fresh: C, part: &Part<'_>) -> Result<(), AllocError>;
+
+    /// Goes on after a make that was refused.
+    fn refuse(&mut self, refusal: &Refusal, part: &Part<'_>) -> Result<(), AllocError>;
+
+    /// Goes on where no challenger was asked for.
+    fn idle(&mut self, lines: &[Numbered<'_>]) -> Result<(), AllocError>;
 }
 
-/// A part of a script: the line that makes its challenger, and the lines that follow.
-#[derive(Clone, Copy)]
-pub struct Part<'a> {
-    pub mode: Mode,
-    pub make: Numbered<'a>,
-    pub lines: &'a [Numbered<'a>],
-}
-
-fn begin<C: Played + Copy>(
-    heap: Global,
+/// Goes on with a challenger, or after its refusal.
+fn begin_or_refuse<C: Played + Copy, P: Playing>(
     made: Result<C, Refusal>,
     part: &Part<'_>,
-    sheet: &mut Sheet,
+    player: &mut P,
 ) -> Result<(), AllocError> {
     match made {
-        Ok(mut fresh) => match part.mode {
-            Mode::Run => play(heap, &mut fresh, part, sheet),
-            Mode::Agree => rehearse(heap, &fresh, &part.make, part.lines, &mut sheet.answers),
-        },
-        Err(refusal) => refuse(heap, &refusal, part, sheet),
+        Ok(fresh) => player.begin(fresh, part),
+        Err(refusal) => player.refuse(&refusal, part),
     }
 }
 
-fn with_mirror(
-    heap: Global,
-    domain: DomainName,
-    sizes: (usize, usize),
+/// Makes the challenger over a domain. A ladder is made before the challenger.
+fn make_over<D: Domain<ORDER> + Copy, P: Playing, const ORDER: u64>(
+    asked: &DuplexParameters,
     part: &Part<'_>,
-    sheet: &mut Sheet,
+    player: &mut P,
 ) -> Result<(), AllocError> {
-    let (width, rate) = sizes;
-    match domain {
-        DomainName::Bytes => begin(
-            heap,
-            DuplexChallenger::<Bytes, Mirror, 256>::new(width, rate, Mirror),
-            part,
-            sheet,
-        ),
-        DomainName::BabyBear => begin(
-            heap,
-            DuplexChallenger::<BabyBear, Mirror, 2013265921>::new(width, rate, Mirror),
-            part,
-            sheet,
-        ),
-        DomainName::KoalaBear => begin(
-            heap,
-            DuplexChallenger::<KoalaBear, Mirror, 2130706433>::new(width, rate, Mirror),
-            part,
-            sheet,
-        ),
-        DomainName::Goldilocks => begin(
-            heap,
-            DuplexChallenger::<Goldilocks, Mirror, 18446744069414584321>::new(width, rate, Mirror),
-            part,
-            sheet,
-        ),
-    }
-}
-
-fn with_ladder(
-    heap: Global,
-    domain: DomainName,
-    ladder: Ladder,
-    sizes: (usize, usize),
-    part: &Part<'_>,
-    sheet: &mut Sheet,
-) -> Result<(), AllocError> {
-    let (width, rate) = sizes;
-    match domain {
-        DomainName::Bytes => begin(
-            heap,
-            DuplexChallenger::<Bytes, Ladder, 256>::new(width, rate, ladder),
-            part,
-            sheet,
-        ),
-        DomainName::BabyBear => begin(
-            heap,
-            DuplexChallenger::<BabyBear, Ladder, 2013265921>::new(width, rate, ladder),
-            part,
-            sheet,
-        ),
-        DomainName::KoalaBear => begin(
-            heap,
-            DuplexChallenger::<KoalaBear, Ladder, 2130706433>::new(width, rate, ladder),
-            part,
-            sheet,
-        ),
-        DomainName::Goldilocks => begin(
-            heap,
-            DuplexChallenger::<Goldilocks, Ladder, 18446744069414584321>::new(width, rate, ladder),
-            part,
-            sheet,
-        ),
-    }
-}
-
-/// Makes the challenger that a part asks for, and goes on with it. A ladder is made before the challenger.
-pub fn make(
-    heap: Global,
-    domain: DomainName,
-    permutation: PermutationName,
-    sizes: (u64, u64),
-    part: &Part<'_>,
-    sheet: &mut Sheet,
-) -> Result<(), AllocError> {
-    let sizes = (sizes.0 as usize, sizes.1 as usize);
-    match permutation {
-        PermutationName::Mirror => with_mirror(heap, domain, sizes, part, sheet),
+    let width = asked.width as usize;
+    let rate = asked.rate as usize;
+    match asked.permutation {
+        PermutationName::Mirror => {
+            let made = DuplexChallenger::<D, Mirror, ORDER>::new(width, rate, Mirror);
+            begin_or_refuse(made, part, player)
+        }
         PermutationName::Ladder(rounds) => match Ladder::new(rounds) {
-            Ok(ladder) => with_ladder(heap, domain, ladder, sizes, part, sheet),
-            Err(refusal) => refuse(heap, &refusal, part, sheet),
+            Ok(ladder) => {
+                let made = DuplexChallenger::<D, Ladder, ORDER>::new(width, rate, ladder);
+                begin_or_refuse(made, part, player)
+            }
+            Err(refusal) => player.refuse(&refusal, part),
         },
     }
+}
+
+/// Makes the challenger that a part asks for, and goes on with it.
+fn make<P: Playing>(
+    asked: &DuplexParameters,
+    part: &Part<'_>,
+    player: &mut P,
+) -> Result<(), AllocError> {
+    match asked.domain {
+        DomainName::Bytes => make_over::<Bytes, P, 256>(asked, part, player),
+        DomainName::BabyBear => make_over::<BabyBear, P, 2013265921>(asked, part, player),
+        DomainName::KoalaBear => make_over::<KoalaBear, P, 2130706433>(asked, part, player),
+        DomainName::Goldilocks => make_over::<Goldilocks, P, 18446744069414584321>(
+            asked, part, player,
+        ),
+    }
+}
+
+/// Plays the lines from a make, or from the beginning, to the next make.
+fn play_part<P: Playing>(
+    heap: Global,
+    lines: &[Numbered<'_>],
+    player: &mut P,
+) -> Result<(), AllocError> {
+    let Some((first, rest)) = lines.split_first() else {
+        return Ok(());
+    };
+    match read_line(heap, first.text) {
+        Ok(Line::MakeDuplex(asked)) => {
+            let part = Part {
+                make: *first,
+                lines: rest,
+            };
+            make(&asked, &part, player)
+        }
+        _ => player.idle(lines),
+    }
+}
+
+/// Plays the lines of a script: a part begins at each line that begins with `make`, and the first at the first line.
+pub fn play_parts<P: Playing>(
+    heap: Global,
+    lines: &[Numbered<'_>],
+    player: &mut P,
+) -> Result<(), AllocError> {
+    for part in lines.chunk_by(|_, line| !begins_make(line.text)) {
+        play_part(heap, part, player)?;
+    }
+    Ok(())
 }

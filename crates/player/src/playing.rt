@@ -1,11 +1,14 @@
 // The play of a script, line by line.
-use crate::making::{Mode, Part, make};
-use printing::{Listed, add_line, answered, refused};
+ghost use Rattle.std.specs.Prelude.{◌≡◌, ◌↔◌, IfOk, IsTrue, string_len};
+
+use crate::making::{Playing, play_parts};
+use printing::Listed;
 use refusal::Refusal;
-use rehearsal::lines::{Numbered, call_of, parts, split_lines};
-use rehearsal::{Played, rehearse_none};
+use rehearsal::Played;
+use rehearsal::lines::{Numbered, Part, before_finalize, call_of, split_lines};
 use script::{Fault, Line, read_line};
 use std::alloc::{AllocError, Global};
+use std::io;
 
 /// What a play writes: an answer for each call, and a message for each line that cannot be read.
 #[derive(Drop)]
@@ -14,146 +17,108 @@ pub struct Sheet {
     pub messages: String,
 }
 
-/// The answer in the place of a line that cannot be read, and the message. Short memory is no fault of the line.
-fn bad_line(line: &Numbered<'_>, fault: Fault<'_>, sheet: &mut Sheet) -> Result<(), AllocError> {
-    if let Fault::Memory = fault {
-        return Err(AllocError);
+impl Sheet {
+    /// Prints the answers, and the messages on standard error; tells whether every line could be read.
+    pub fn print<R: Print + Eprint>(&self, rt: &R) -> io::Result<bool>
+        ensures { IfOk result (λ read. IsTrue read ↔ (string_len self.now.messages ≡ 0)) }
+    {
+        rt.print(self.answers.as_str())?;
+        rt.eprint(self.messages.as_str())?;
+        Ok(self.messages.is_empty())
     }
-    let number = line.number;
-    add_line(&mut sheet.answers, "bad-line")?;
-    add_line(&mut sheet.messages, format_args!("line {number}: {fault}"))
-}
 
-/// Answers one line; tells whether the challenger is still there.
-fn play_line<C: Played>(
-    heap: Global,
-    challenger: &mut C,
-    line: &Line,
-    answers: &mut String,
-) -> Result<bool, AllocError> {
-    match line {
-        Line::Blank => {}
-        Line::Held => {
-            let held = challenger.held();
-            add_line(answers, format_args!("held {held}"))?;
+    fn heap(&self) -> Global {
+        *self.answers.allocator()
+    }
+
+    /// The answer in the place of a line that cannot be read, and the message. Short memory is no fault of the line.
+    fn bad_line(&mut self, line: &Numbered<'_>, fault: Fault<'_>) -> Result<(), AllocError> {
+        if let Fault::Memory = fault {
+            return Err(AllocError);
         }
-        Line::Finalize => {
-            let digest = challenger.digest(heap)?;
-            let codes = Listed {
-                codes: digest.as_slice(),
-                mark: ' ',
-            };
-            add_line(answers, format_args!("ok {codes}"))?;
-            return Ok(false);
-        }
-        _ => match call_of(line) {
-            Some(call) => add_line(answers, answered(heap, &challenger.call(&call))?)?,
-            None => add_line(answers, "no-call")?,
-        },
+        let number = line.number;
+        writeln!(self.answers, "bad-line")?;
+        writeln!(self.messages, "line {number}: {fault}")
     }
-    Ok(true)
-}
 
-fn idle_line(heap: Global, line: &Numbered<'_>, sheet: &mut Sheet) -> Result<(), AllocError> {
-    match read_line(heap, line.text) {
-        Ok(Line::Blank) => Ok(()),
-        Ok(_) => add_line(&mut sheet.answers, "no-challenger"),
-        Err(fault) => bad_line(line, fault, sheet),
-    }
-}
-
-/// Answers lines where there is no challenger.
-fn idle(heap: Global, lines: &[Numbered<'_>], sheet: &mut Sheet) -> Result<(), AllocError> {
-    for line in lines {
-        idle_line(heap, line, sheet)?;
-    }
-    Ok(())
-}
-
-/// Plays the lines that follow a make, on its challenger until it is finalized.
-pub fn play<C: Played>(
-    heap: Global,
-    challenger: &mut C,
-    part: &Part<'_>,
-    sheet: &mut Sheet,
-) -> Result<(), AllocError> {
-    add_line(&mut sheet.answers, "ok")?;
-    let mut live = true;
-    for line in part.lines {
-        if live {
-            match read_line(heap, line.text) {
-                Ok(read) => live = play_line(heap, challenger, &read, &mut sheet.answers)?,
-                Err(fault) => bad_line(line, fault, sheet)?,
-            }
-        } else {
-            idle_line(heap, line, sheet)?;
-        }
-    }
-    Ok(())
-}
-
-/// Goes on after a make that was refused.
-pub fn refuse(
-    heap: Global,
-    refusal: &Refusal,
-    part: &Part<'_>,
-    sheet: &mut Sheet,
-) -> Result<(), AllocError> {
-    let words = refused(heap, refusal)?;
-    match part.mode {
-        Mode::Run => {
-            add_line(&mut sheet.answers, words)?;
-            idle(heap, part.lines, sheet)
-        }
-        Mode::Agree => rehearse_none(
-            heap,
-            words.as_str(),
-            &part.make,
-            part.lines,
-            &mut sheet.answers,
-        ),
-    }
-}
-
-/// Plays the lines from a make, or from the beginning, to the next make.
-fn play_part<'a>(
-    heap: Global,
-    lines: &'a [Numbered<'a>],
-    sheet: &mut Sheet,
-) -> Result<(), AllocError> {
-    let Some((first, rest)) = lines.split_first() else {
-        return Ok(());
-    };
-    match read_line(heap, first.text) {
-        Ok(
-            Line::MakeDuplex {
-                domain,
-                permutation,
-                width,
-                rate,
+    /// Answers what a line says, which is no finalize.
+    fn answer<C: Played>(&mut self, challenger: &mut C, line: &Line) -> Result<(), AllocError> {
+        match line {
+            Line::Blank => Ok(()),
+            Line::Held => writeln!(self.answers, "held {}", challenger.held()),
+            _ => match call_of(line) {
+                Some(call) => writeln!(self.answers, "{}", challenger.call(&call)),
+                None => writeln!(self.answers, "no-call"),
             },
-        ) => {
-            let part = Part {
-                mode: Mode::Run,
-                make: *first,
-                lines: rest,
-            };
-            make(heap, domain, permutation, (width, rate), &part, sheet)
         }
-        _ => idle(heap, lines, sheet),
+    }
+
+    /// Answers the lines before a finalize.
+    fn play_lines<C: Played>(
+        &mut self,
+        challenger: &mut C,
+        lines: &[Numbered<'_>],
+    ) -> Result<(), AllocError> {
+        for line in lines {
+            match read_line(self.heap(), line.text) {
+                Ok(read) => self.answer(challenger, &read)?,
+                Err(fault) => self.bad_line(line, fault)?,
+            }
+        }
+        Ok(())
+    }
+
+    fn finalize<C: Played>(&mut self, challenger: &C) -> Result<(), AllocError> {
+        let digest = challenger.digest(self.heap())?;
+        writeln!(
+            self.answers,
+            "ok {}",
+            Listed::with_spaces(digest.as_slice())
+        )
+    }
+
+    fn idle_line(&mut self, line: &Numbered<'_>) -> Result<(), AllocError> {
+        match read_line(self.heap(), line.text) {
+            Ok(Line::Blank) => Ok(()),
+            Ok(_) => writeln!(self.answers, "no-challenger"),
+            Err(fault) => self.bad_line(line, fault),
+        }
+    }
+}
+
+impl Playing for Sheet {
+    fn begin<C: Played + Copy>(&mut self, fresh: C, part: &Part<'_>) -> Result<(), AllocError> {
+        let mut challenger = fresh;
+        writeln!(self.answers, "ok")?;
+        let (before, after) = before_finalize(part.lines);
+        self.play_lines(&mut challenger, before)?;
+        let Some((_, rest)) = after.split_first() else {
+            return Ok(());
+        };
+        self.finalize(&challenger)?;
+        self.idle(rest)
+    }
+
+    fn refuse(&mut self, refusal: &Refusal, part: &Part<'_>) -> Result<(), AllocError> {
+        writeln!(self.answers, "{refusal}")?;
+        self.idle(part.lines)
+    }
+
+    fn idle(&mut self, lines: &[Numbered<'_>]) -> Result<(), AllocError> {
+        for line in lines {
+            self.idle_line(line)?;
+        }
+        Ok(())
     }
 }
 
 /// Plays a script.
 pub fn run(heap: Global, text: &str) -> Result<Sheet, AllocError> {
     let lines = split_lines(heap, text)?;
-    let all = parts(heap, lines.as_slice())?;
     let mut sheet = Sheet {
         answers: String::new(heap),
         messages: String::new(heap),
     };
-    for part in all.iter() {
-        play_part(heap, *part, &mut sheet)?;
-    }
+    play_parts(heap, lines.as_slice(), &mut sheet)?;
     Ok(sheet)
 }

@@ -1,28 +1,13 @@
--- Answers in words, as bytes. Assumes nothing.
-use Rattle.std.specs.Prelude.{ℕ, Bool, true, false, List, [], ◌∷◌, ◌++◌, codes, decimal}
-use Rattle.refusal.specs.declared.Refusal.{Refusal}
-use Rattle.refusal.specs.Numbers.{number, values}
-use Rattle.runs.specs.declared.call.Answer.{Answer}
-use Rattle.runs.specs.declared.call.Answer.TheVariants.{Done, Code, Bits, Checked, Ground, Refused, Absent}
+-- What is printed, as bytes. Assumes nothing.
+use Rattle.std.specs.Prelude.{ℕ, List, [], ◌∷◌, ◌++◌, codes, decimal}
+use Rattle.std.specs.List.{flat_map}
 
--- numbers in decimal, a space between two
-abbrev pub spaced : List ℕ → List ℕ
-spaced [] = []
-spaced (n ∷ []) = decimal n
-spaced (n ∷ m ∷ ns) = decimal n ++ (codes " " ++ spaced (m ∷ ns))
+-- codes in decimal with a mark between two, or - if there is none
+abbrev pub listed : List ℕ → List ℕ → List ℕ
+listed mark [] = codes "-"
+listed mark (n ∷ ns) = decimal n ++ flat_map (λ m. mark ++ decimal m) ns
 
-abbrev pub refusal_words : Refusal → List ℕ
-refusal_words e = codes "no " ++ spaced (number e ∷ values e)
-
-abbrev pub yes_or_no : Bool → List ℕ
-yes_or_no true = codes "ok yes"
-yes_or_no false = codes "ok no"
-
-abbrev pub answer_words : Answer → List ℕ
-answer_words Done = codes "ok"
-answer_words (Code n) = codes "ok " ++ spaced (n ∷ [])
-answer_words (Bits n) = codes "ok " ++ spaced (n ∷ [])
-answer_words (Checked v) = yes_or_no v
-answer_words (Ground w t) = codes "ok " ++ spaced (w ∷ t ∷ [])
-answer_words (Refused e) = refusal_words e
-answer_words Absent = codes "no-call"
+-- a row, the codes pending and the outputs
+abbrev pub held_words : List ℕ → List ℕ → List ℕ → List ℕ
+held_words row pending outputs =
+    codes "row=" ++ (listed (codes ",") row ++ (codes " pending=" ++ (listed (codes ",") pending ++ (codes " outputs=" ++ listed (codes ",") outputs))))

@@ -4,6 +4,8 @@
 ghost use Rattle.std.specs.Prelude.{◌≡◌, length, take, drop};
 ghost use Rattle.refusal.specs.Numbers.{number, values};
 
+mod display;
+
 #[derive(Clone, Copy, PartialEq, Eq, Debug)]
 pub enum Refusal {
     /// Is RATE at least 1 and below WIDTH, and WIDTH at most 64?

@@ -4,6 +4,7 @@
 pub mod lines;
 mod played;
 mod sides;
+mod turns;
 
 pub use played::Played;
-pub use sides::{rehearse, rehearse_none, rehearse_unmade};
+pub use sides::Table;

@@ -1,11 +1,12 @@
-// The lines of a script, the parts that its makes begin, and the calls that lines ask for.
-ghost use Rattle.std.specs.Prelude.{◌≡◌};
+// The lines of a script, and the calls that lines ask for.
+ghost use Rattle.std.specs.Prelude.{◌≡◌, take, drop, map, IfOk};
 ghost use Rattle.std.specs.Option.{option_map};
 ghost use Rattle.script.specs.Meaning.{meaning};
 ghost use Rattle.rehearsal.specs.Calls.{said_for, called};
+ghost use Rattle.rehearsal.specs.Lines.{line_of, numbered_lines, finalize_place};
 
 use runs::Call;
-use script::{Line, begins_make};
+use script::Line;
 use std::alloc::{AllocError, Global};
 
 /// A line of a script, without its line end.
@@ -15,31 +16,36 @@ pub struct Numbered<'a> {
     pub text: &'a str,
 }
 
-/// The lines of a text, numbered from 1.
-pub fn split_lines(heap: Global, text: &str) -> Result<Vec<Numbered<'_>>, AllocError> {
-    let mut all = Vec::new(heap);
-    for (i, text) in text.split('\n').enumerate() {
-        let number = i.saturating_add(1);
-        all.push(Numbered { number, text })?;
-    }
-    Ok(all)
+/// A part of a script: the line that makes its challenger, and the lines that follow.
+#[derive(Clone, Copy)]
+pub struct Part<'a> {
+    pub make: Numbered<'a>,
+    pub lines: &'a [Numbered<'a>],
 }
 
-/// The parts of a script: one begins at each line that begins with `make`, and the first at the first line.
-pub fn parts<'a>(
-    heap: Global,
-    lines: &'a [Numbered<'a>],
-) -> Result<Vec<&'a [Numbered<'a>]>, AllocError> {
-    let mut all = Vec::new(heap);
-    let mut start = 0;
-    for (i, line) in lines.iter().enumerate() {
-        if begins_make(line.text) {
-            all.push(&lines[start..i])?;
-            start = i;
-        }
-    }
-    all.push(&lines[start..])?;
-    Ok(all)
+/// The lines of a text, numbered from 1.
+pub fn split_lines(heap: Global, text: &str) -> Result<Vec<Numbered<'_>>, AllocError>
+    ensures { IfOk result (λ v. map line_of v.items ≡ numbered_lines text.now) }
+{
+    text.split('\n')
+        .enumerate()
+        .map(|(i, text)| Numbered {
+            number: i.saturating_add(1),
+            text,
+        })
+        .collect(heap)
+}
+
+/// The lines before the first finalize, and those from it on.
+pub fn before_finalize<'a>(lines: &'a [Numbered<'a>]) -> (&'a [Numbered<'a>], &'a [Numbered<'a>])
+    ensures before { result.0.now ≡ take (finalize_place lines.entry.now) lines.entry.now }
+    ensures after { result.1.now ≡ drop (finalize_place lines.entry.now) lines.entry.now }
+{
+    let place = lines
+        .iter()
+        .position(|line| line.text == "finalize")
+        .unwrap_or(lines.len());
+    lines.split_at(place)
 }
 
 /// The call of a duplex challenger that a line asks for, if any.

@@ -1,4 +1,8 @@
 // Challengers that a script plays.
+ghost use Rattle.std.specs.Prelude.{◌≡◌, ℕ, List, IfOk};
+ghost use Rattle.duplexing.specs.Rules.{finalized};
+ghost use Rattle.duplexing.specs.Holds.{of_make};
+
 use domain::Domain;
 use duplex::DuplexChallenger;
 use permutation::CryptographicPermutation;
@@ -8,13 +12,25 @@ use std::alloc::{AllocError, Global};
 
 /// A challenger that tells what it holds, and its digest if it were finalized now.
 pub trait Played: Challenger {
-    fn held(&self) -> Held<'_>;
+    // The row, the codes pending and the outputs.
+    ghost shown: { Self.Held → List ℕ × List ℕ × List ℕ };
 
-    fn digest(&self, heap: Global) -> Result<Vec<u64>, AllocError>;
+    // The digest of what is held.
+    ghost ending: { Self.Make → Self.Held → List ℕ };
+
+    fn held(&self) -> Held<'_>
+        ensures { (result.row.now, result.pending.now, result.outputs.now) ≡ shown (Self.Holding.held self.now) };
+
+    fn digest(&self, heap: Global) -> Result<Vec<u64>, AllocError>
+        ensures { IfOk result (λ v. v.items ≡ ending (Self.Holding.make self.now) (Self.Holding.held self.now)) };
 }
 
 impl<D: Domain<ORDER> + Copy, P: CryptographicPermutation<D, ORDER> + Copy, const ORDER: u64> Played
     for DuplexChallenger<D, P, ORDER> {
+    ghost shown = { λ h. (h.row, h.pending, h.outputs) };
+
+    ghost ending = { λ m. finalized (of_make D.Domain.arithmetic P.CryptographicPermutation.image m) };
+
     fn held(&self) -> Held<'_> {
         Held {
             row: self.row(),

@@ -7,6 +7,7 @@ ghost use Rattle.runs.specs.declared.call.Call.{Call as CallT};
 ghost use Rattle.runs.specs.Runs.{Rule, ChecksStand};
 
 pub mod call;
+mod display;
 mod run;
 
 pub use call::{Answer, Call};

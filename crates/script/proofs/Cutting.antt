@@ -1,6 +1,6 @@
 -- Where a text is cut into its first word and the rest. Assumes nothing.
-use Rattle.std.proofs.Common.{◌≡◌, ℕ, suc, ◌≤◌, false, eqb, List, [], ◌∷◌, ◌++◌, length, Some, None, Option, refl, ap, suc-le-suc, zero-le, arith}
-use Rattle.std.proofs.lemmas.Bool.{ne_eqb, cond_both}
+use Rattle.std.proofs.Common.{◌≡◌, ℕ, suc, false, eqb, List, [], ◌∷◌, ◌++◌, Some, None, refl, ap, suc-le-suc, zero-le}
+use Rattle.std.proofs.lemmas.Bool.{ne_eqb}
 use Rattle.std.specs.Str.Iter.{LacksByte}
 use Rattle.script.specs.Words.{first_word, after_word}
 
@@ -23,12 +23,3 @@ at_space (c ∷ cs) ys h =
     let e = not_space c cs h in
     let r = at_space cs ys (later c cs h) in
     (rw e (ap (λ w. c ∷ w) r.0), rw e r.1)
-
--- how much is left to read
-abbrev pub left : Option (List ℕ) → ℕ
-left None = 0
-left (Some t) = suc (length t)
-
-pub after_shorter : (t : List ℕ) → left (after_word t) ≤ length t
-after_shorter [] = zero-le
-after_shorter (c ∷ cs) = cond_both (eqb c 32) (Some cs) (after_word cs) (λ o. left o ≤ suc (length cs)) (λ _. omega arith) (λ _. omega (arith, after_shorter cs))

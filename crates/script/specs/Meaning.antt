@@ -1,14 +1,16 @@
 -- What a line that was read says. Assumes nothing.
-use Rattle.std.specs.Prelude.{◌≡◌, ◌⊎◌, Some, None, vec_items, Option, Result, MatchResult}
+use Rattle.std.specs.Prelude.{◌≡◌, ℕ, ◌⊎◌, List, Some, None, vec_items, Option, Result, MatchResult}
+use Rattle.std.specs.Option.{option_map}
 use Rattle.script.specs.declared.Fault.{Fault}
 use Rattle.script.specs.declared.Fault.TheVariants.{Memory}
+use Rattle.script.specs.declared.Rest.{Rest}
 use Rattle.script.specs.declared.Line.{Line}
 use Rattle.script.specs.declared.Line.TheVariants.{Blank, MakeDuplex, Observe, Digest, Digest64, Sample, Bits, Uniform, Check, Grind, Find, Held, Finalize}
 use Rattle.script.specs.Grammar.{Said, to_blank, to_make_duplex, to_observe, to_digest, to_digest64, to_sample, to_bits, to_uniform, to_check, to_grind, to_find, to_held, to_finalize}
 
 abbrev pub meaning : Line → Said
 meaning Blank = to_blank
-meaning (MakeDuplex d p w r) = to_make_duplex d p (w, r)
+meaning (MakeDuplex m) = to_make_duplex m.domain m.permutation (m.width, m.rate)
 meaning (Observe v) = to_observe (vec_items v)
 meaning (Digest v) = to_digest (vec_items v)
 meaning (Digest64 v) = to_digest64 (vec_items v)
@@ -20,6 +22,10 @@ meaning (Grind b n) = to_grind (b, n)
 meaning (Find n m) = to_find (n, m)
 meaning Held = to_held
 meaning Finalize = to_finalize
+
+-- the text that is left
+abbrev pub left : Rest → Option (List ℕ)
+left r = option_map (λ x. x.now) r.text
 
 -- the answer is what is said, and an error where nothing is said or memory is short
 abbrev pub Gives : {T X : Type 0} → (T → X) → Option X → Result T Fault → Type 0

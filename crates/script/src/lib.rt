@@ -1,13 +1,15 @@
 //! The lines of a script: one call of a challenger each, read from text.
 #![tactic(auto)]
 
-ghost use Rattle.std.specs.Prelude.{◌≡◌, vec_items, codes, Decides};
+ghost use Rattle.std.specs.Prelude.{◌≡◌, Some, vec_items, codes, Decides};
 ghost use Rattle.std.specs.Option.{option_map};
 ghost use Rattle.std.specs.Result.{result_ok};
+ghost use Rattle.std.specs.Iterator.{YieldsFirstRef, item_count};
 ghost use Rattle.script.specs.declared.Fault.TheVariants.{Memory};
-ghost use Rattle.script.specs.Words.{first_word, after_word, number_of, one_of, two_of, optional_of, numbers_of, entry};
+ghost use Rattle.script.specs.Words.{first_word, after_word, words_of, number_of, one_of, two_of, optional_of, numbers_of, entry};
 ghost use Rattle.script.specs.Grammar.{domain_of, permutation_of, duplex_of, make_of, nothing_of, pairs, calls, line_of, said_by};
-ghost use Rattle.script.specs.Meaning.{meaning, Gives};
+ghost use Rattle.script.specs.Meaning.{meaning, left, Gives};
+ghost use Rattle.script.specs.Spoken.{part_words, fault_words};
 
 use std::alloc::{AllocFailed, Global};
 use std::fmt;
@@ -28,17 +30,21 @@ pub enum PermutationName {
     Ladder(u64),
 }
 
+/// What a duplex challenger is made of.
+#[derive(Clone, Copy)]
+pub struct DuplexParameters {
+    pub domain: DomainName,
+    pub permutation: PermutationName,
+    pub width: u64,
+    pub rate: u64,
+}
+
 /// What one line asks for.
 #[derive(Drop)]
 pub enum Line {
     /// An empty line, or one that starts with `#`.
     Blank,
-    MakeDuplex {
-        domain: DomainName,
-        permutation: PermutationName,
-        width: u64,
-        rate: u64,
-    },
+    MakeDuplex(DuplexParameters),
     Observe(Vec<u64>),
     Digest(Vec<u64>),
     Digest64(Vec<u64>),
@@ -90,54 +96,67 @@ impl<T: Drop> From<AllocFailed<T>> for Fault<'_> {
     }
 }
 
-impl Part {
-    fn absent(self) -> &'static str {
-        match self {
-            Part::MultiField => "this build has no multi-field challenger",
-            Part::Hash => "this build has no hash challenger",
-            Part::Serializing => "this build has no serializing challenger",
-            Part::HashOf => "this build has no call hashof",
-            Part::Helpers => "this build has no call helpers",
-        }
-    }
-}
+impl fmt::Display for Part {
+    ghost output = { λ p. Some (part_words p) };
 
-impl<'a> Fault<'a> {
-    /// A sentence, and the word that it ends with, if any.
-    fn sentence(self) -> (&'static str, Option<&'a str>) {
+    fn fmt<W: fmt::Write>(&self, f: &mut fmt::Formatter<W>) -> fmt::Result {
         match self {
-            Fault::Spacing => ("words are separated by one space", None),
-            Fault::UnknownCall(word) => ("there is no call", Some(word)),
-            Fault::UnknownChallenger(word) => ("there is no challenger", Some(word)),
-            Fault::UnknownDomain(word) => ("there is no domain", Some(word)),
-            Fault::UnknownPermutation(word) => ("there is no permutation", Some(word)),
-            Fault::NotNumber(word) => ("this is no decimal number below 2^64:", Some(word)),
-            Fault::TooFew => ("a word is missing", None),
-            Fault::TooMany => ("there are more words than the call takes", None),
-            Fault::NotInBuild(part) => (part.absent(), None),
-            Fault::Memory => ("there is not enough memory", None),
+            Part::MultiField => write!(f, "multi-field challenger"),
+            Part::Hash => write!(f, "hash challenger"),
+            Part::Serializing => write!(f, "serializing challenger"),
+            Part::HashOf => write!(f, "call hashof"),
+            Part::Helpers => write!(f, "call helpers"),
         }
     }
 }
 
 impl fmt::Display for Fault<'_> {
+    ghost output = { fault_words };
+
     fn fmt<W: fmt::Write>(&self, f: &mut fmt::Formatter<W>) -> fmt::Result {
-        let (sentence, word) = self.sentence();
-        match word {
-            Some(word) => write!(f, "{sentence} {word:?}"),
-            None => write!(f, "{sentence}"),
+        match self {
+            Fault::Spacing => write!(f, "words are separated by one space"),
+            Fault::UnknownCall(word) => write!(f, "there is no call {word:?}"),
+            Fault::UnknownChallenger(word) => write!(f, "there is no challenger {word:?}"),
+            Fault::UnknownDomain(word) => write!(f, "there is no domain {word:?}"),
+            Fault::UnknownPermutation(word) => write!(f, "there is no permutation {word:?}"),
+            Fault::NotNumber(word) => write!(f, "this is no decimal number below 2^64: {word:?}"),
+            Fault::TooFew => write!(f, "a word is missing"),
+            Fault::TooMany => write!(f, "there are more words than the call takes"),
+            Fault::NotInBuild(part) => write!(f, "this build has no {part}"),
+            Fault::Memory => write!(f, "there is not enough memory"),
         }
     }
 }
 
+/// What follows a word, if something does.
+#[derive(Clone, Copy)]
+struct Rest<'a> {
+    text: Option<&'a str>,
+}
+
 /// The first word, and what follows the space behind it.
-fn cut(text: &str) -> (&str, Option<&str>)
+fn cut(text: &str) -> (&str, Rest<'_>)
     ensures word { result.0.now ≡ first_word text.now }
-    ensures rest { option_map (λ x. x.now) result.1 ≡ after_word text.now }
+    ensures rest { left result.1 ≡ after_word text.now }
 {
     match text.split_once(' ') {
-        Some((word, rest)) => (word, Some(rest)),
-        None => (text, None),
+        Some((word, rest)) => (word, Rest { text: Some(rest) }),
+        None => (text, Rest { text: None }),
+    }
+}
+
+impl<'a> Iterator for Rest<'a> {
+    type Item = &'a str;
+
+    ghost next_gives = { YieldsFirstRef (λ r. words_of (left r)) };
+
+    ghost remaining = { item_count (λ r. words_of (left r)) };
+
+    fn next(&mut self) -> Option<&'a str> {
+        let (word, rest) = cut(self.text?);
+        *self = rest;
+        Some(word)
     }
 }
 
@@ -157,176 +176,157 @@ fn number(word: &str) -> Result<u64, Fault<'_>>
     if word.starts_with('+') {
         return Err(not_number(word));
     }
-    match word.parse::<u64>() {
-        Ok(n) => Ok(n),
-        Err(_) => Err(not_number(word)),
-    }
+    word.parse::<u64>().map_err(|_| not_number(word))
 }
 
-/// The one number that follows.
-fn one(rest: Option<&str>) -> Result<u64, Fault<'_>>
-    ensures { result_ok result ≡ one_of (option_map (λ x. x.now) rest.entry) }
-{
-    match rest {
-        Some(text) => number(text),
-        None => Err(Fault::TooFew),
-    }
-}
+impl<'a> TryFrom<&'a str> for DomainName {
+    type Error = Fault<'a>;
 
-/// The two numbers that follow.
-fn two(rest: Option<&str>) -> Result<(u64, u64), Fault<'_>>
-    ensures { result_ok result ≡ two_of (option_map (λ x. x.now) rest.entry) }
-{
-    let Some(text) = rest else {
-        return Err(Fault::TooFew);
-    };
-    let (first, second) = cut(text);
-    let a = number(first)?;
-    let b = one(second)?;
-    Ok((a, b))
-}
+    ghost try_from_gives = { λ word r. result_ok r ≡ domain_of word.now };
 
-/// Any number of numbers.
-fn numbers(heap: Global, rest: Option<&str>) -> Result<Vec<u64>, Fault<'_>>
-    ensures { Gives vec_items (numbers_of (option_map (λ x. x.now) rest.entry)) result }
-{
-    let mut all = Vec::new(heap);
-    let mut more = rest;
-    while let Some(text) = more {
-        let (word, after) = cut(text);
-        all.push(number(word)?)?;
-        more = after;
-    }
-    Ok(all)
-}
-
-/// No number, or one.
-fn at_most_one(rest: Option<&str>) -> Result<Option<u64>, Fault<'_>>
-    ensures { result_ok result ≡ optional_of (option_map (λ x. x.now) rest.entry) }
-{
-    match rest {
-        Some(text) => {
-            let n = number(text)?;
-            Ok(Some(n))
+    fn try_from(word: &'a str) -> Result<Self, Fault<'a>> {
+        match word {
+            "bytes" => Ok(DomainName::Bytes),
+            "babybear" => Ok(DomainName::BabyBear),
+            "koalabear" => Ok(DomainName::KoalaBear),
+            "goldilocks" => Ok(DomainName::Goldilocks),
+            _ => Err(Fault::UnknownDomain(word)),
         }
-        None => Ok(None),
     }
 }
 
-/// The line itself, if nothing follows.
-fn alone<'a>(line: Line, rest: Option<&'a str>) -> Result<Line, Fault<'a>>
-    ensures { option_map meaning (result_ok result) ≡ nothing_of (option_map (λ x. x.now) rest.entry) (meaning line) }
-{
-    match rest {
-        Some(_) => Err(Fault::TooMany),
-        None => Ok(line),
-    }
-}
+impl<'a> TryFrom<&'a str> for PermutationName {
+    type Error = Fault<'a>;
 
-fn domain_name(word: &str) -> Result<DomainName, Fault<'_>>
-    ensures { result_ok result ≡ domain_of word.now }
-{
-    match word {
-        "bytes" => Ok(DomainName::Bytes),
-        "babybear" => Ok(DomainName::BabyBear),
-        "koalabear" => Ok(DomainName::KoalaBear),
-        "goldilocks" => Ok(DomainName::Goldilocks),
-        _ => Err(Fault::UnknownDomain(word)),
-    }
-}
+    ghost try_from_gives = { λ word r. result_ok r ≡ permutation_of word.now };
 
-fn permutation_name(word: &str) -> Result<PermutationName, Fault<'_>>
-    ensures { result_ok result ≡ permutation_of word.now }
-{
-    if word == "mirror" {
-        return Ok(PermutationName::Mirror);
-    }
-    match word.strip_prefix("ladder:") {
-        Some(rounds) => {
-            let n = number(rounds)?;
-            Ok(PermutationName::Ladder(n))
+    fn try_from(word: &'a str) -> Result<Self, Fault<'a>> {
+        if word == "mirror" {
+            return Ok(PermutationName::Mirror);
         }
-        None => Err(Fault::UnknownPermutation(word)),
+        let rounds = word
+            .strip_prefix("ladder:")
+            .ok_or(Fault::UnknownPermutation(word))?;
+        Ok(PermutationName::Ladder(number(rounds)?))
     }
 }
 
-/// DOMAIN PERM WIDTH RATE.
-fn read_duplex(rest: Option<&str>) -> Result<Line, Fault<'_>>
-    ensures { option_map meaning (result_ok result) ≡ duplex_of (option_map (λ x. x.now) rest.entry) }
-{
-    let Some(text) = rest else {
-        return Err(Fault::TooFew);
-    };
-    let (first, rest) = cut(text);
-    let domain = domain_name(first)?;
-    let Some(text) = rest else {
-        return Err(Fault::TooFew);
-    };
-    let (second, rest) = cut(text);
-    let permutation = permutation_name(second)?;
-    let (width, rate) = two(rest)?;
-    Ok(Line::MakeDuplex {
-        domain,
-        permutation,
-        width,
-        rate,
-    })
-}
-
-fn read_make(rest: Option<&str>) -> Result<Line, Fault<'_>>
-    ensures { option_map meaning (result_ok result) ≡ make_of (option_map (λ x. x.now) rest.entry) }
-{
-    let Some(text) = rest else {
-        return Err(Fault::TooFew);
-    };
-    let (kind, rest) = cut(text);
-    match kind {
-        "duplex" => read_duplex(rest),
-        "multi" => Err(Fault::NotInBuild(Part::MultiField)),
-        "hash" => Err(Fault::NotInBuild(Part::Hash)),
-        "serial" => Err(Fault::NotInBuild(Part::Serializing)),
-        _ => Err(Fault::UnknownChallenger(kind)),
+impl<'a> Rest<'a> {
+    /// One number.
+    fn one(self) -> Result<u64, Fault<'a>>
+        ensures { result_ok result ≡ one_of (left self.entry) }
+    {
+        number(self.text.ok_or(Fault::TooFew)?)
     }
-}
 
-/// A call with two numbers.
-fn read_pair<'a>(name: &'a str, rest: Option<&'a str>) -> Result<Line, Fault<'a>>
-    ensures { option_map meaning (result_ok result) ≡ entry name.now (pairs (option_map (λ x. x.now) rest.entry)) }
-{
-    match name {
-        "uniform" => {
-            let (bits, limit) = two(rest)?;
-            Ok(Line::Uniform(bits, limit))
-        }
-        "check" => {
-            let (bits, witness) = two(rest)?;
-            Ok(Line::Check(bits, witness))
-        }
-        "grind" => {
-            let (bits, budget) = two(rest)?;
-            Ok(Line::Grind(bits, budget))
-        }
-        "find" => {
-            let (count, mask) = two(rest)?;
-            Ok(Line::Find(count, mask))
-        }
-        _ => Err(Fault::UnknownCall(name)),
+    /// Two numbers.
+    fn two(self) -> Result<(u64, u64), Fault<'a>>
+        ensures { result_ok result ≡ two_of (left self.entry) }
+    {
+        let (first, second) = cut(self.text.ok_or(Fault::TooFew)?);
+        let a = number(first)?;
+        let b = second.one()?;
+        Ok((a, b))
     }
-}
 
-/// A call of a challenger.
-fn read_call<'a>(heap: Global, name: &'a str, rest: Option<&'a str>) -> Result<Line, Fault<'a>>
-    ensures { Gives meaning (entry name.now (calls (option_map (λ x. x.now) rest.entry))) result }
-{
-    match name {
-        "observe" => Ok(Line::Observe(numbers(heap, rest)?)),
-        "digest" => Ok(Line::Digest(numbers(heap, rest)?)),
-        "digest64" => Ok(Line::Digest64(numbers(heap, rest)?)),
-        "sample" => Ok(Line::Sample(at_most_one(rest)?)),
-        "bits" => Ok(Line::Bits(one(rest)?)),
-        "held" => alone(Line::Held, rest),
-        "finalize" => alone(Line::Finalize, rest),
-        _ => read_pair(name, rest),
+    /// Any number of numbers.
+    fn numbers(self, heap: Global) -> Result<Vec<u64>, Fault<'a>>
+        ensures { Gives vec_items (numbers_of (left self.entry)) result }
+    {
+        let mut all = Vec::new(heap);
+        for word in self {
+            all.push(number(word)?)?;
+        }
+        Ok(all)
+    }
+
+    /// No number, or one.
+    fn at_most_one(self) -> Result<Option<u64>, Fault<'a>>
+        ensures { result_ok result ≡ optional_of (left self.entry) }
+    {
+        self.text.map(number).transpose()
+    }
+
+    /// The line itself, if nothing follows.
+    fn nothing(self, line: Line) -> Result<Line, Fault<'a>>
+        ensures { option_map meaning (result_ok result) ≡ nothing_of (left self.entry) (meaning line) }
+    {
+        match self.text {
+            Some(_) => Err(Fault::TooMany),
+            None => Ok(line),
+        }
+    }
+
+    /// DOMAIN PERM WIDTH RATE.
+    fn duplex(self) -> Result<Line, Fault<'a>>
+        ensures { option_map meaning (result_ok result) ≡ duplex_of (left self.entry) }
+    {
+        let (first, rest) = cut(self.text.ok_or(Fault::TooFew)?);
+        let domain = DomainName::try_from(first)?;
+        let (second, rest) = cut(rest.text.ok_or(Fault::TooFew)?);
+        let permutation = PermutationName::try_from(second)?;
+        let (width, rate) = rest.two()?;
+        Ok(Line::MakeDuplex(DuplexParameters {
+            domain,
+            permutation,
+            width,
+            rate,
+        }))
+    }
+
+    /// What a challenger is made of.
+    fn make(self) -> Result<Line, Fault<'a>>
+        ensures { option_map meaning (result_ok result) ≡ make_of (left self.entry) }
+    {
+        let (kind, rest) = cut(self.text.ok_or(Fault::TooFew)?);
+        match kind {
+            "duplex" => rest.duplex(),
+            "multi" => Err(Fault::NotInBuild(Part::MultiField)),
+            "hash" => Err(Fault::NotInBuild(Part::Hash)),
+            "serial" => Err(Fault::NotInBuild(Part::Serializing)),
+            _ => Err(Fault::UnknownChallenger(kind)),
+        }
+    }
+
+    /// A call with two numbers.
+    fn pair(self, name: &'a str) -> Result<Line, Fault<'a>>
+        ensures { option_map meaning (result_ok result) ≡ entry name.now (pairs (left self.entry)) }
+    {
+        match name {
+            "uniform" => {
+                let (bits, limit) = self.two()?;
+                Ok(Line::Uniform(bits, limit))
+            }
+            "check" => {
+                let (bits, witness) = self.two()?;
+                Ok(Line::Check(bits, witness))
+            }
+            "grind" => {
+                let (bits, budget) = self.two()?;
+                Ok(Line::Grind(bits, budget))
+            }
+            "find" => {
+                let (count, mask) = self.two()?;
+                Ok(Line::Find(count, mask))
+            }
+            _ => Err(Fault::UnknownCall(name)),
+        }
+    }
+
+    /// A call of a challenger.
+    fn call(self, heap: Global, name: &'a str) -> Result<Line, Fault<'a>>
+        ensures { Gives meaning (entry name.now (calls (left self.entry))) result }
+    {
+        match name {
+            "observe" => Ok(Line::Observe(self.numbers(heap)?)),
+            "digest" => Ok(Line::Digest(self.numbers(heap)?)),
+            "digest64" => Ok(Line::Digest64(self.numbers(heap)?)),
+            "sample" => Ok(Line::Sample(self.at_most_one()?)),
+            "bits" => Ok(Line::Bits(self.one()?)),
+            "held" => self.nothing(Line::Held),
+            "finalize" => self.nothing(Line::Finalize),
+            _ => self.pair(name),
+        }
     }
 }
 
@@ -335,10 +335,10 @@ fn read_words(heap: Global, text: &str) -> Result<Line, Fault<'_>>
 {
     let (name, rest) = cut(text);
     match name {
-        "make" => read_make(rest),
+        "make" => rest.make(),
         "hashof" => Err(Fault::NotInBuild(Part::HashOf)),
         "helpers" => Err(Fault::NotInBuild(Part::Helpers)),
-        _ => read_call(heap, name, rest),
+        _ => rest.call(heap, name),
     }
 }
 
@@ -361,6 +361,7 @@ pub fn read_line(heap: Global, text: &str) -> Result<Line, Fault<'_>>
     if text.is_empty() || text.starts_with('#') {
         return Ok(Line::Blank);
     }
+    // Kept as a match: the check doesn't cover a closure over the text and a fault for `map_err`.
     match read_words(heap, text) {
         Ok(line) => Ok(line),
         Err(fault) => Err(respaced(text, fault)),

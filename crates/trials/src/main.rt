@@ -7,9 +7,7 @@ use std::{fs, io};
 fn play(rt: &HostRuntime, path: &str) -> io::Result<()> {
     let text = fs::read_to_string(rt, path)?;
     let sheet = player::run(rt.alloc(), text.as_str())?;
-    rt.print(sheet.answers.as_str())?;
-    rt.eprint(sheet.messages.as_str())?;
-    if sheet.messages.is_empty() {
+    if sheet.print(rt)? {
         Ok(())
     } else {
         Err(io::Error::from(io::ErrorKind::InvalidData))

@@ -1,0 +1,117 @@
+// The prover's and the verifier's run of the calls of a script.
+use crate::lines::{Numbered, call_of};
+use crate::played::Played;
+use runs::{Answer, Call, instead};
+use script::{Line, read_line};
+use std::alloc::{AllocError, Global};
+use std::slice::Iter;
+
+/// A line with a call, read.
+#[derive(Drop)]
+pub struct Step<'a> {
+    pub at: Numbered<'a>,
+    pub line: Line,
+}
+
+/// The lines with a call.
+pub fn steps<'a>(heap: Global, lines: &[Numbered<'a>]) -> Result<Vec<Step<'a>>, AllocError> {
+    let mut all = Vec::new(heap);
+    for at in lines {
+        let line = read_line(heap, at.text).map_err(|_| AllocError)?;
+        if call_of(&line).is_some() {
+            all.push(Step { at: *at, line })?;
+        }
+    }
+    Ok(all)
+}
+
+/// One of the prover's calls and its answer, and what the verifier called in its place, if anything, and its answer.
+#[derive(Clone, Copy)]
+pub struct Turn<'a> {
+    pub at: Numbered<'a>,
+    pub call: Call<'a>,
+    pub proved: Answer,
+    pub again: Option<(Call<'a>, Answer)>,
+}
+
+impl Turn<'_> {
+    /// Whether the verifier's answer is the one that repeats the prover's.
+    pub fn agrees(&self) -> bool {
+        match (self.call, self.again) {
+            (_, None) => true,
+            (Call::Grind(_, _), Some((_, said))) => said == Answer::Checked(true),
+            (_, Some((_, said))) => said == self.proved,
+        }
+    }
+}
+
+/// What the verifier called in the place of a call, if anything, and its next answer.
+fn again<'a>(
+    call: &Call<'a>,
+    proved: &Answer,
+    said: &mut Iter<'_, Answer>,
+) -> Option<(Call<'a>, Answer)> {
+    let call = instead(call, proved)?;
+    Some((call, said.next().copied().unwrap_or(Answer::Absent)))
+}
+
+/// The turns of a run.
+fn turns<'a>(
+    heap: Global,
+    steps: &[Step<'a>],
+    calls: &[Call<'a>],
+    proved: &[Answer],
+    said: &[Answer],
+) -> Result<Vec<Turn<'a>>, AllocError> {
+    let mut said = said.iter();
+    steps
+        .iter()
+        .zip(calls.iter().zip(proved.iter()))
+        .map(|(step, (call, proved))| Turn {
+            at: step.at,
+            call: *call,
+            proved: *proved,
+            again: again(call, proved, &mut said),
+        })
+        .collect(heap)
+}
+
+/// The two ends of a transcript.
+#[derive(Clone, Copy)]
+pub struct Ends<C> {
+    pub prover: C,
+    pub verifier: C,
+}
+
+impl<C: Played> Ends<C> {
+    /// The prover makes the calls of the steps, and the verifier repeats them. It tells whether all its answers repeat the prover's.
+    pub fn run<'a>(
+        &mut self,
+        heap: Global,
+        steps: &'a [Step<'a>],
+    ) -> Result<(Vec<Turn<'a>>, bool), AllocError> {
+        let calls: Vec<Call<'a>> = steps
+            .iter()
+            .filter_map(|step| call_of(&step.line))
+            .collect(heap)?;
+        let mut proved = vec![in heap; Answer::Absent; calls.len()]?;
+        let mut said = vec![in heap; Answer::Absent; calls.len()]?;
+        let told = runs::agree(
+            &mut self.prover,
+            &mut self.verifier,
+            calls.as_slice(),
+            proved.as_mut_slice(),
+            said.as_mut_slice(),
+        );
+        let turns = turns(
+            heap,
+            steps,
+            calls.as_slice(),
+            proved.as_slice(),
+            said.as_slice(),
+        )?;
+        let shown = turns.iter().filter(|turn| turn.again.is_some()).count();
+        let alike = told == Some(shown) && turns.iter().all(|turn| turn.agrees());
+        Ok((turns, alike))
+    }
+}

@@ -1,6 +1,6 @@
 -- The lines of a script that is rehearsed. Assumes nothing.
-use Rattle.std.specs.Prelude.{Bool, true, is_some}
-use Rattle.script.specs.Grammar.{Said, to_blank, to_make_duplex, to_observe, to_digest, to_digest64, to_sample, to_bits, to_uniform, to_check, to_grind, to_find, to_held, to_finalize}
+use Rattle.std.specs.Prelude.{ℕ, Bool, true, false, List, Some, None, Option, is_some}
+use Rattle.script.specs.Grammar.{said_by, Said, to_blank, to_make_duplex, to_observe, to_digest, to_digest64, to_sample, to_bits, to_uniform, to_check, to_grind, to_find, to_held, to_finalize}
 use Rattle.rehearsal.specs.Calls.{called}
 
 -- a line that is skipped, makes a challenger, tells what it holds or ends it, or asks for a call of it
@@ -18,3 +18,11 @@ admitted (to_grind p) = is_some (called (to_grind p))
 admitted (to_find p) = is_some (called (to_find p))
 admitted to_held = true
 admitted to_finalize = true
+
+abbrev pub admitted_said : Option Said → Bool
+admitted_said None = false
+admitted_said (Some s) = admitted s
+
+-- a line that can be read, and stands in a script that is rehearsed
+abbrev pub rehearsable : List ℕ → Bool
+rehearsable text = admitted_said (said_by text)

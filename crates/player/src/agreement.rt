@@ -1,8 +1,10 @@
 // The prover's and the verifier's run of a script, side by side.
-ghost use Rattle.std.specs.Prelude.{◌≡◌};
+ghost use Rattle.std.specs.Prelude.{◌≡◌, ℕ, List, IfOk, IsTrue, All};
 ghost use Rattle.script.specs.Meaning.{meaning};
+ghost use Rattle.rehearsal.specs.Lines.{numbered_lines};
+ghost use Rattle.rehearsal.specs.declared.lines.Numbered.{Numbered};
 ghost use Rattle.player.specs.declared.agreement.Stop.TheVariants.{Memory};
-ghost use Rattle.player.specs.Admitted.{admitted};
+ghost use Rattle.player.specs.Admitted.{admitted, rehearsable};
 ghost use Rattle.player.specs.Spoken.{stop_words};
 
 use crate::making::{Playing, play_parts};
@@ -54,8 +56,11 @@ fn fits(line: &Line) -> bool
 }
 
 /// Refuses the script at the first line that does not fit.
-fn admit<'a>(heap: Global, lines: &[Numbered<'a>]) -> Result<(), Stop<'a>> {
+fn admit<'a>(heap: Global, lines: &[Numbered<'a>]) -> Result<(), Stop<'a>>
+    ensures { IfOk result (λ _. All (λ (l : Numbered). IsTrue (rehearsable l.text.now)) lines.now) }
+{
     for line in lines {
+        // Kept as a match: the check doesn't cover a closure over a line's number and a fault for `map_err`.
         match read_line(heap, line.text) {
             Ok(read) => {
                 if !fits(&read) {
@@ -83,7 +88,9 @@ impl Playing for Table {
 }
 
 /// The prover's and the verifier's run of a script, as tables.
-pub fn agree<'a>(heap: Global, text: &'a str) -> Result<String, Stop<'a>> {
+pub fn agree<'a>(heap: Global, text: &'a str) -> Result<String, Stop<'a>>
+    ensures { IfOk result (λ _. All (λ (p : ℕ × List ℕ). IsTrue (rehearsable p.1)) (numbered_lines text.entry.now)) }
+{
     let lines = split_lines(heap, text)?;
     admit(heap, lines.as_slice())?;
     let mut table = Table {

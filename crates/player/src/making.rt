@@ -45,6 +45,7 @@ fn make_over<D: Domain<ORDER> + Copy, P: Playing, const ORDER: u64>(
             let made = DuplexChallenger::<D, Mirror, ORDER>::new(width, rate, Mirror);
             begin_or_refuse(made, part, player)
         }
+        // Kept as a match: the check doesn't cover `and_then` with a closure whose result names `D`.
         PermutationName::Ladder(rounds) => match Ladder::new(rounds) {
             Ok(ladder) => {
                 let made = DuplexChallenger::<D, Ladder, ORDER>::new(width, rate, ladder);

@@ -16,6 +16,7 @@ pub struct Step<'a> {
 /// The lines with a call.
 pub fn steps<'a>(heap: Global, lines: &[Numbered<'a>]) -> Result<Vec<Step<'a>>, AllocError> {
     let mut all = Vec::new(heap);
+    // Kept as a `for`: reading a line allocates, and a closure under `filter_map` can't pass that failure on.
     for at in lines {
         let line = read_line(heap, at.text).map_err(|_| AllocError)?;
         if call_of(&line).is_some() {

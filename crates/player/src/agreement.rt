@@ -60,14 +60,10 @@ fn admit<'a>(heap: Global, lines: &[Numbered<'a>]) -> Result<(), Stop<'a>>
     ensures { IfOk result (λ _. All (λ (l : Numbered). IsTrue (rehearsable l.text.now)) lines.now) }
 {
     for line in lines {
-        // Kept as a match: the check doesn't cover a closure over a line's number and a fault for `map_err`.
-        match read_line(heap, line.text) {
-            Ok(read) => {
-                if !fits(&read) {
-                    return Err(Stop::NoCall(line.number));
-                }
-            }
-            Err(fault) => return Err(Stop::Unreadable(line.number, fault)),
+        let number = line.number;
+        let read = read_line(heap, line.text).map_err(|fault| Stop::Unreadable(number, fault))?;
+        if !fits(&read) {
+            return Err(Stop::NoCall(number));
         }
     }
     Ok(())

@@ -1,8 +1,7 @@
-use Rattle.std.proofs.Common.{◌≡◌, ℕ, List, [], true, Some, slice_index_or, sym, subst}
+use Rattle.std.proofs.Common.{◌≡◌, ℕ, List, [], true, Some, slice_index_or, sym, subst, Ok, Err, Option, Result, ap, ◌∙◌}
 use Rattle.std.proofs.lemmas.List.{get_or_default}
 use Rattle.std.specs.Bool.{IsTrue}
 use Rattle.std.specs.Result.{MatchResult, IsErrAnd, result_ok}
-use Rattle.std.proofs.Common.{Ok, Err, Option, Result, ap, ◌∙◌}
 use Rattle.std.specs.Option.{option_map}
 use Rattle.script.specs.declared.Fault.{Fault}
 use Rattle.script.specs.declared.Line.{Line}

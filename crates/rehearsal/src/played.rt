@@ -1,7 +1,7 @@
 // Challengers that a script plays.
 ghost use Rattle.std.specs.Prelude.{◌≡◌, ℕ, List, IfOk};
-ghost use Rattle.duplexing.specs.Rules.{finalized};
-ghost use Rattle.duplexing.specs.Holds.{of_make};
+ghost use Rattle.duplex.specs.Rules.{finalized};
+ghost use Rattle.sponge.specs.SpongeHeld.{of_make};
 
 use domain::Domain;
 use duplex::DuplexChallenger;
@@ -19,17 +19,17 @@ pub trait Played: Challenger {
     ghost ending: { Self.Make → Self.Held → List ℕ };
 
     fn held(&self) -> Held<'_>
-        ensures { (result.row.now, result.pending.now, result.outputs.now) ≡ shown (Self.Holding.held self.now) };
+        ensures { (result.row.now, result.pending.now, result.outputs.now) ≡ shown (Self.held self.now) };
 
     fn digest(&self, heap: Global) -> Result<Vec<u64>, AllocError>
-        ensures { IfOk result (λ v. v.items ≡ ending (Self.Holding.make self.now) (Self.Holding.held self.now)) };
+        ensures { IfOk result (λ v. v.items ≡ ending (Self.make self.now) (Self.held self.now)) };
 }
 
 impl<D: Domain<ORDER> + Copy, P: CryptographicPermutation<D, ORDER> + Copy, const ORDER: u64> Played
     for DuplexChallenger<D, P, ORDER> {
     ghost shown = { λ h. (h.row, h.pending, h.outputs) };
 
-    ghost ending = { λ m. finalized (of_make D.Domain.arithmetic P.CryptographicPermutation.image m) };
+    ghost ending = { λ m. finalized (of_make D.arithmetic P.image m) };
 
     fn held(&self) -> Held<'_> {
         Held {

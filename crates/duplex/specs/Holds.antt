@@ -1,5 +1,5 @@
 -- What a duplex challenger in memory stands for.
-use Rattle.std.specs.Prelude.{ℕ, List}
+use Rattle.std.specs.Prelude.{ℕ}
 use Rattle.domain.specs.declared.Domain.{Ghosts as DomainGhosts}
 use Rattle.permutation.specs.declared.CryptographicPermutation.{Ghosts as PermutationGhosts}
 use Rattle.buffer.specs.Items.{items}

@@ -1,10 +1,9 @@
 -- A check from its parts, and a grind by its outcome.
-use Rattle.std.proofs.Common.{◌≡◌, ℕ, Bool, true, false, eqb, ltb, leb, List, [], ◌∷◌, Ok, Err, Result, sym, refl, ap, ◌∙◌, subst, arith}
+use Rattle.std.proofs.Common.{◌≡◌, ℕ, Bool, true, false, eqb, ltb, [], ◌∷◌, Result, sym, ap, ◌∙◌, subst}
 use Rattle.std.proofs.lemmas.Bool.{cond-true, cond-false}
 use Rattle.refusal.specs.declared.Refusal.{Refusal}
-use Rattle.refusal.specs.declared.Refusal.TheVariants.{Bits, Budget, NotCode}
-use Rattle.interface.specs.Meaning.{Reply, reply, Does, Drawing, observe_of, few_bits, bits_of}
-use Rattle.interface.specs.Grinding.{Means, at_make, check_of, grind_of, judged, LeastWitness}
+use Rattle.interface.specs.Meaning.{Reply, reply, Does, few_bits}
+use Rattle.interface.specs.Grinding.{Means, check_of, grind_of, judged, LeastWitness}
 use Rattle.interface.specs.GrindingLaws.{least-witness}
 
 -- a call does what its rule says, if the rule gives what was said and is held

@@ -1,5 +1,5 @@
 -- What a multi-field challenger in memory stands for, and when one is made.
-use Rattle.std.specs.Prelude.{ℕ, ◌*◌, cond, List, Some, None, Option, nat_le, nat_lt}
+use Rattle.std.specs.Prelude.{ℕ, ◌*◌, cond, Some, None, Option, nat_le, nat_lt}
 use Rattle.refusal.specs.declared.Refusal.{Refusal}
 use Rattle.refusal.specs.declared.Refusal.TheVariants.{Shape, SampledOrder, Orders, Batch}
 use Rattle.domain.specs.declared.Domain.{Ghosts as DomainGhosts}

@@ -1,5 +1,5 @@
 -- What the steps and rounds of a ladder write, one more at a time. Assumes nothing.
-use Rattle.std.proofs.Common.{◌≡◌, ℕ, ◌+◌, ◌%◌, List, length, get_or, set, ap, add-one}
+use Rattle.std.proofs.Common.{◌≡◌, ℕ, ◌+◌, List, length, ap, add-one}
 use Rattle.domain.specs.Arithmetic.{Arithmetic}
 use Rattle.permutation.specs.Ladder.{ladder_step, ladder_steps, ladder_rounds}
 

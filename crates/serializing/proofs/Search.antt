@@ -3,7 +3,7 @@ use Rattle.std.proofs.Common.{◌≡◌, ℕ, ◌+◌, ◌-◌, ◌%◌, ◌^◌
 use Rattle.std.proofs.lemmas.Nat.{and_mask}
 use Rattle.std.proofs.lemmas.Bool.{lt-ltb, le-ltb, le-leb, ne_eqb, cond-true, cond-false, cases_lt, and_from}
 use Rattle.refusal.specs.declared.Refusal.TheVariants.{NoWitness}
-use Rattle.interface.specs.Meaning.{reply, observe_of, few_bits}
+use Rattle.interface.specs.Meaning.{reply, few_bits}
 use Rattle.interface.specs.Grinding.{yes, check_of, judged, accepts, grind_of, NoneBelow}
 use Rattle.interface.specs.GrindingLaws.{grind_found, grind_spent}
 use Rattle.interface.proofs.Checks.{check_judged}

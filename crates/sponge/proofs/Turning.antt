@@ -1,8 +1,8 @@
 -- What a turn makes of a sponge. Assumes nothing.
-use Rattle.std.proofs.Common.{◌≡◌, ℕ, ◌<◌, ◌≤◌, List, length, ap, ◌∙◌, arith}
+use Rattle.std.proofs.Common.{ℕ, ◌<◌, ◌≤◌, length, arith}
 use Rattle.domain.specs.declared.Domain.{Ghosts as DomainGhosts}
 use Rattle.permutation.specs.declared.CryptographicPermutation.{Ghosts as PermutationGhosts}
-use Rattle.permutation.specs.Rows.{Row, Lawful}
+use Rattle.permutation.specs.Rows.{Row}
 use Rattle.buffer.specs.Items.{items}
 use Rattle.buffer.proofs.Facts.{items-length}
 use Rattle.sponge.specs.declared.Sponge.{Sponge}

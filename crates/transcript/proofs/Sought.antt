@@ -1,6 +1,6 @@
 -- What the search for a witness finds, case by case.
 use Rattle.std.proofs.Common.{◌≡◌, ℕ, ◌<◌, ◌≤◌, true, false, ltb, leb, ◌⊎◌, Some, None, sym, ap, ◌∙◌, inl, inr, ⊎_elim, arith}
-use Rattle.std.proofs.lemmas.Bool.{lt-ltb, le-ltb, le-leb, lt-leb, cond-true, cond-false, cases_lt}
+use Rattle.std.proofs.lemmas.Bool.{lt-ltb, le-ltb, le-leb, cond-true, cond-false, cases_lt}
 use Rattle.interface.specs.Grinding.{first}
 use Rattle.interface.specs.GrindingLaws.{first_below, first_holds, first_is, first-none}
 use Rattle.transcript.specs.Transcript.{Transcript, if_below, candidates_of, passes, sought}

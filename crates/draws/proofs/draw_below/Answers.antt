@@ -1,6 +1,6 @@
 use Rattle.std.proofs.Common.{sym, ap, ◌∙◌}
 use Rattle.interface.proofs.Checks.{does_by, did}
-use Rattle.draws.proofs.Bounded.{draw_accept, draw_last, draw_again}
+use Rattle.draws.proofs.Bounded.{draw_accept, draw_again}
 use Rattle.draws.proofs.draw_below.Goals as goal
 
 pub loop-value-preserved : goal.loop-value-preserved

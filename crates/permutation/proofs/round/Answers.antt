@@ -1,6 +1,5 @@
-use Rattle.std.proofs.Common.{◌≡◌, ◌+◌, ◌-◌, ◌%◌, length, sym, ap, ◌∙◌, mod-eq_of_lt, arith}
-use native.Mathlib.Nat.{mod_self}
-use Rattle.permutation.specs.Ladder.{ladder_step, ladder_steps}
+use Rattle.std.proofs.Common.{sym, ap, ◌∙◌, arith}
+use Rattle.permutation.specs.Ladder.{ladder_step}
 use Rattle.permutation.specs.LadderLaw.{step_row}
 use Rattle.permutation.proofs.Steps.{steps_more}
 use Rattle.permutation.proofs.round.Goals as goal

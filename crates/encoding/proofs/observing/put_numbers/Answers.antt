@@ -1,8 +1,8 @@
-use Rattle.std.proofs.Common.{◌≡◌, ◌+◌, ◌≤◌, true, ◌++◌, get_or, drop, sym, ap, ◌∙◌, subst, arith}
-use Rattle.std.proofs.lemmas.List.{at_drop_more, at_drop_all}
+use Rattle.std.proofs.Common.{◌≡◌, ◌+◌, true, ◌++◌, get_or, drop, sym, ap, ◌∙◌}
+use Rattle.std.proofs.lemmas.List.{at_drop_more}
 use Rattle.transcript.specs.Transcript.{puts, fits}
 use Rattle.encoding.specs.Encoding.{low_bytes, encoded}
-use Rattle.encoding.proofs.Fitting.{length-low, puts-append, fits-first, fits-then}
+use Rattle.encoding.proofs.Fitting.{puts-append, fits-then}
 use Rattle.encoding.proofs.observing.put_numbers.Goals as goal
 
 pub loop-number-preserved : goal.loop-number-preserved

@@ -1,4 +1,4 @@
-use Rattle.std.proofs.Common.{◌≡◌, ◌<◌, get_or, rules, sym, ◌∙◌}
+use Rattle.std.proofs.Common.{◌<◌, get_or, rules, sym, ◌∙◌}
 use Rattle.sponge.specs.CodesBlockLaws.{all_codes-codes}
 use Rattle.duplex.proofs.challenger.DuplexChallengerCanObserve.observe.Goals as goal
 

@@ -1,4 +1,4 @@
-use Rattle.std.proofs.Common.{◌≡◌, ◌<◌, get_or, rules, sym, ◌∙◌}
+use Rattle.std.proofs.Common.{◌<◌, get_or, rules, sym, ◌∙◌}
 use Rattle.sponge.specs.CodesBlockLaws.{all_codes-codes}
 use Rattle.multi_field.proofs.interface_calls.MultiField32ChallengerCanObserve.observe.Goals as goal
 

@@ -10,6 +10,7 @@ mod codes;
 
 pub use codes::all_codes;
 
+// Kept as facts of numbers: callers' slices hold numbers, and a type of codes would ask for a copy of each slice.
 /// A domain of the codes below `ORDER`.
 pub trait Domain<const ORDER: u64> {
     // What the domain means.

@@ -42,6 +42,7 @@ pub fn some_draws(limit: u64) -> bool
     1 <= limit && limit <= 65535
 }
 
+// Kept as a fact of a number: bits are numbers of scripts and halves of them, and a type would be made and taken apart at each shift.
 /// 2^bits.
 pub fn power(bits: u64) -> u64
     requires few { bits < 64 }

@@ -10,6 +10,7 @@ mod state;
 
 pub use held::HashHeld;
 
+// Kept as a fixed array with a count: a challenger holds no heap memory and is copied as it stands.
 /// A list of at most 1,024 bytes: the first `count` cells.
 #[derive(Clone, Copy)]
 pub struct ByteList {

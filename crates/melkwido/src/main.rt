@@ -52,6 +52,7 @@ fn agree(rt: &HostRuntime, path: &str) -> io::Result<ExitCode> {
 
 /// Does what a command says; another word than a command gets the help.
 fn obey(rt: &HostRuntime, command: &str, path: &str) -> io::Result<ExitCode> {
+    // Kept as a match: each word of the command line has its own arm, and a table of functions says no more.
     match command {
         "run" => run(rt, path),
         "agree" => agree(rt, path),

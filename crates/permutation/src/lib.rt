@@ -11,6 +11,7 @@ ghost use Rattle.permutation.specs.MirrorLaw.{mirror_lawful};
 use domain::Domain;
 use refusal::Refusal;
 
+// Kept as a fact of a slice: a row is lent from the cells of a buffer, whose type already says that they are codes.
 /// A permutation of the rows of codes of each width.
 pub trait CryptographicPermutation<D: Domain<ORDER>, const ORDER: u64> {
     // The row that a row goes to.

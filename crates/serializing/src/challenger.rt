@@ -106,6 +106,7 @@ impl<D: Domain<ORDER>, T: ByteTranscript + Drop, const ORDER: u64> SerializingCh
 }
 
 impl<D: Domain<ORDER>, T: ByteTranscript, const ORDER: u64> SerializingChallenger32<D, T, ORDER> {
+    // Kept as the transcript's make and held value in each clause: the quotes of `make` and `held` of `Holding`'s impl are longer.
     /// Observes a digest of bytes.
     pub fn observe_digest(&mut self, bytes: &[u8]) -> Result<(), Refusal>
         ensures does { Does (λ s. T.make s.inner) (λ s. T.held s.inner) self.old self.new result (observe_of (bytes_observed (T.meaning (T.make self.old.inner)) (T.held self.old.inner) bytes.now) (T.held self.old.inner)) }

@@ -54,7 +54,7 @@ fn square_modulo(order: u64, a: u64) -> u64
     a * a % order
 }
 
-// Kept as four impls: each is a row of the rules' table, and what they compute is said once, above.
+// Kept as four impls: a generic one would ask the bounds of each order as laws of a further trait, and each domain would state them there.
 /// The codes below 256.
 #[derive(Clone, Copy)]
 pub struct Bytes;

@@ -29,9 +29,7 @@ impl<D: ByteDomain<ORDER>, P: CryptographicPermutation<D, ORDER>, const ORDER: u
     }
 
     fn observe_bytes(&mut self, bytes: &[u8]) -> Result<(), Refusal> {
-        for b in bytes {
-            self.take(*b as u64);
-        }
+        self.take_bytes(bytes);
         Ok(())
     }
 

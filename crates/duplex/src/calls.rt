@@ -18,6 +18,7 @@ impl<
     ghost stands = { λ m. checks_stand (of_make D.arithmetic P.image m) };
 
     fn call(&mut self, call: &Call) -> Answer {
+        // Kept as a match of each challenger: its arms are those of its rule, and challengers differ in the calls that they have.
         match call {
             Call::Observe(codes) => self
                 .observe(codes)

@@ -1,12 +1,13 @@
 // The challenger and its single calls.
-ghost use Rattle.std.specs.Prelude.{◌≡◌, ◌<◌, true, false, ◌&&◌, length, MatchResult, ◌==◌};
+ghost use Rattle.std.specs.Prelude.{◌≡◌, ◌<◌, ◌≤◌, true, false, ◌&&◌, [], length, MatchResult, ◌==◌};
 ghost use Rattle.refusal.specs.declared.Refusal.TheVariants.{Shape};
 ghost use Rattle.buffer.specs.Items.{items};
 ghost use Rattle.interface.specs.Meaning.{Does, observe_of};
 ghost use Rattle.runs.specs.Runs.{OneMake};
-ghost use Rattle.sponge.specs.SpongeHeld.{shaped, made, of_make};
+ghost use Rattle.sponge.specs.SpongeHeld.{shaped, made, of_make, held as sponge_held, making as sponge_making, SameMake};
+ghost use Rattle.sponge.specs.CodesBlock.{turned as sponge_turned};
 ghost use Rattle.uniform.specs.Uniform.{uniform_of};
-ghost use Rattle.duplex.specs.Rules.{fresh as fresh_of, taken, turned, observed as observed_of, ready, sample_of, drawing as drawing_of, finalized};
+ghost use Rattle.duplex.specs.Rules.{fresh as fresh_of, taken, all_taken, observed as observed_of, ready, sample_of, drawing as drawing_of, finalized};
 ghost use Rattle.duplex.specs.Holds.{held as held_in, make as make_of, making};
 ghost use Rattle.duplex.specs.Calls.{rule as rule_of};
 
@@ -19,6 +20,22 @@ use permutation::CryptographicPermutation;
 use refusal::Refusal;
 use sponge::{Parameters, Sponge};
 use uniform::uniform_bits;
+
+/// One turn: what is pending is absorbed, if there is some, and the row is permuted.
+// Kept as a function of both: the challenger's own fact on room does not hold where RATE codes are pending.
+fn turn<D: Domain<ORDER>, P: CryptographicPermutation<D, ORDER>, const ORDER: u64>(
+    sponge: &mut Sponge<D, P, ORDER>,
+    pending: &mut Buffer<ORDER, 64>,
+)
+    requires room { length (items pending.old) ≤ sponge.old.rate }
+    ensures state { sponge_held sponge.new ≡ sponge_turned (sponge_making sponge.old) (sponge_held sponge.old).row (items pending.old) }
+    ensures emptied { items pending.new ≡ [] }
+    ensures make { SameMake sponge.new sponge.old }
+    ensures full { length (sponge_held sponge.new).outputs ≡ sponge.old.rate }
+{
+    sponge.turn(pending);
+    pending.clear();
+}
 
 impl<
     D: Domain<ORDER>,
@@ -41,7 +58,7 @@ impl<
         ensures { items result ≡ finalized (making self) (held_in self) }
     {
         let mut last = self;
-        last.turn();
+        last.finish();
         last.sponge.outputs()
     }
 }
@@ -63,6 +80,7 @@ impl<D: Domain<ORDER>, P: CryptographicPermutation<D, ORDER>, const ORDER: u64> 
     for DuplexChallenger<D, P, ORDER> {
     ghost observed = { λ m. observed_of (of_make D.arithmetic P.image m) };
 
+    // Kept as methods of each challenger, here and below: they are the lines of its rule, over its own order and its own `take`.
     fn observe(&mut self, codes: &[u64]) -> Result<(), Refusal> {
         if !all_codes::<ORDER>(codes) {
             return Err(Refusal::NotCode);
@@ -106,7 +124,7 @@ impl<D: Domain<ORDER>, P: CryptographicPermutation<D, ORDER>, const ORDER: u64> 
 > {
     /// Takes one code.
     #[tactic(auto, unfolding(crate::specs::Rules::taken, crate::specs::Rules::turned))]
-    pub(crate) fn take(&mut self, c: u64)
+    fn take(&mut self, c: u64)
         requires code { c < ORDER }
         ensures state { held_in self.new ≡ taken (making self.old) (held_in self.old) c }
         ensures make { make_of self.new ≡ make_of self.old }
@@ -114,24 +132,30 @@ impl<D: Domain<ORDER>, P: CryptographicPermutation<D, ORDER>, const ORDER: u64> 
         self.sponge.drop_outputs();
         self.pending.push(c);
         if self.pending.len() == self.sponge.rate() {
-            self.sponge.turn(&self.pending);
-            self.pending.clear();
+            turn(&mut self.sponge, &mut self.pending);
         }
     }
 
-    /// One turn: what is pending is absorbed, if there is some, and the row is permuted.
+    /// One more turn, after which the outputs are the digest.
     #[tactic(auto, unfolding(crate::specs::Rules::turned))]
-    fn turn(&mut self)
-        ensures state { held_in self.new ≡ turned (making self.old) (held_in self.old) }
-        ensures make { make_of self.new ≡ make_of self.old }
-        ensures full { length (held_in self.new).outputs ≡ self.old.sponge.rate }
+    fn finish(&mut self)
+        ensures { (held_in self.new).outputs ≡ finalized (making self.old) (held_in self.old) }
     {
-        self.sponge.turn(&self.pending);
-        self.pending.clear();
+        turn(&mut self.sponge, &mut self.pending);
+    }
+
+    /// Takes bytes in turn, as codes.
+    pub fn take_bytes(&mut self, bytes: &[u8])
+        ensures state { held_in self.new ≡ all_taken (making self.old) (held_in self.old) bytes.now }
+        ensures make { make_of self.new ≡ make_of self.old }
+    {
+        for b in bytes {
+            self.take(*b as u64);
+        }
     }
 
     /// Turns, if codes are pending or no output is left.
-    #[tactic(auto, unfolding(crate::specs::Rules::ready))]
+    #[tactic(auto, unfolding(crate::specs::Rules::ready, crate::specs::Rules::turned))]
     fn prepare(&mut self)
         ensures state { held_in self.new ≡ ready (making self.old) (held_in self.old) }
         ensures make { make_of self.new ≡ make_of self.old }
@@ -140,7 +164,7 @@ impl<D: Domain<ORDER>, P: CryptographicPermutation<D, ORDER>, const ORDER: u64> 
         if self.pending.len() == 0 && self.sponge.outputs_left() > 0 {
             return;
         }
-        self.turn();
+        turn(&mut self.sponge, &mut self.pending);
     }
 
     /// Observes a digest: its codes.
@@ -176,7 +200,21 @@ impl<D: Domain<ORDER>, P: CryptographicPermutation<D, ORDER>, const ORDER: u64> 
         ensures value { result ≡ ((make_of self.now).width == (make_of other.now).width && (make_of self.now).rate == (make_of other.now).rate) }
         ensures make { result ≡ true → D.arithmetic ≡ E.arithmetic → (making self.now).image ≡ (making other.now).image → OneMake (rule_of (making self.now)) (rule_of (making other.now)) (fresh_of (making self.now)) (fresh_of (making other.now)) }
     {
-        self.sponge.width() == other.sponge.width() && self.sponge.rate() == other.sponge.rate()
+        self.width() == other.width() && self.rate() == other.rate()
+    }
+
+    /// WIDTH.
+    pub fn width(&self) -> usize
+        ensures { result ≡ (make_of self.now).width }
+    {
+        self.sponge.width()
+    }
+
+    /// RATE.
+    pub fn rate(&self) -> usize
+        ensures { result ≡ (make_of self.now).rate }
+    {
+        self.sponge.rate()
     }
 
     /// The row, to be read.

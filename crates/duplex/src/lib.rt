@@ -1,7 +1,7 @@
 //! The duplex challenger: a sponge that takes codes until its rate is full, and gives its rate back as outputs.
 #![tactic(auto)]
 
-ghost use Rattle.std.specs.Prelude.{◌<◌, length};
+ghost use Rattle.std.specs.Prelude.{◌≡◌, ◌<◌, length};
 ghost use Rattle.buffer.specs.Items.{items};
 
 use buffer::Buffer;
@@ -32,10 +32,17 @@ pub struct DuplexChallenger<
 }
 
 // Kept as written by hand: a derive refuses a struct with type parameters and ghost fields.
-impl<D: Domain<ORDER> + Copy, P: CryptographicPermutation<D, ORDER> + Copy, const ORDER: u64> Clone
+impl<D: Domain<ORDER>, P: CryptographicPermutation<D, ORDER> + Clone, const ORDER: u64> Clone
     for DuplexChallenger<D, P, ORDER> {
+    ghost is_clone = { λ s t. ⟦<Sponge<D, P, ORDER> as Clone>⟧.is_clone s.sponge t.sponge × (t.pending ≡ s.pending) };
+
+    ghost is_infallible = { λ s. ⟦<Sponge<D, P, ORDER> as Clone>⟧.is_infallible s.sponge };
+
     fn clone(&self) -> Result<Self, AllocError> {
-        Ok(*self)
+        Ok(DuplexChallenger {
+            sponge: self.sponge.clone()?,
+            pending: self.pending,
+        })
     }
 }
 

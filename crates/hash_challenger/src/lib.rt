@@ -40,7 +40,7 @@ impl<H: CryptographicHasher<N> + Drop, const N: usize> HashChallenger<H, N> {
     }
 }
 
-// Kept as the hasher and the held value in each clause: the quotes of `make` and `held` of `Holding`'s impl are longer.
+// Kept as the hasher and the held value in each clause: the struct has these two fields, and a definition would only rename them.
 impl<H: CryptographicHasher<N>, const N: usize> HashChallenger<H, N> {
     /// Observes all the bytes, or none if they exceed the room.
     pub fn observe(&mut self, bytes: &[u8]) -> Result<(), Refusal>

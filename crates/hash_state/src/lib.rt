@@ -10,7 +10,7 @@ mod state;
 
 pub use held::HashHeld;
 
-// Kept as a fixed array with a count: a challenger holds no heap memory and is copied as it stands.
+// Kept as a fixed array with a count, beside that of codes: a challenger holds no heap memory, and bytes are lent to a hasher as they stand.
 /// A list of at most 1,024 bytes: the first `count` cells.
 #[derive(Clone, Copy)]
 pub struct ByteList {

@@ -15,6 +15,7 @@ use packing::Numbers;
 use permutation::CryptographicPermutation;
 use sponge::Sponge;
 
+// Kept as three parameters: a challenger flushes where its own fact on room does not hold, and lends its parts.
 /// A turn with the pending scalars: packed in groups, they are a block tagged by their number.
 pub fn flush<
     D: Domain<ORDER>,

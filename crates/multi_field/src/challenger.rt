@@ -172,7 +172,21 @@ impl<
         ensures value { result ≡ ((make_of self.now).width == (make_of other.now).width && (make_of self.now).rate == (make_of other.now).rate) }
         ensures make { result ≡ true → D.arithmetic ≡ E.arithmetic → (making self.now).image ≡ (making other.now).image → OneMake (rule_of SAMPLED (making self.now)) (rule_of SAMPLED (making other.now)) (fresh_of SAMPLED (making self.now)) (fresh_of SAMPLED (making other.now)) }
     {
-        self.sponge.width() == other.sponge.width() && self.sponge.rate() == other.sponge.rate()
+        self.width() == other.width() && self.rate() == other.rate()
+    }
+
+    /// WIDTH.
+    pub fn width(&self) -> usize
+        ensures { result ≡ (make_of self.now).width }
+    {
+        self.sponge.width()
+    }
+
+    /// RATE.
+    pub fn rate(&self) -> usize
+        ensures { result ≡ (make_of self.now).rate }
+    {
+        self.sponge.rate()
     }
 
     /// The row, to be read.

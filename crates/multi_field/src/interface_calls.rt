@@ -38,6 +38,7 @@ impl<
 > CanObserve for MultiField32Challenger<F, D, P, SAMPLED, ORDER> {
     ghost observed = { λ m. observed_of SAMPLED (of_make D.arithmetic P.image m) };
 
+    // Kept as methods of each challenger, here and below: they are the lines of its rule, over its own order and its own `take`.
     fn observe(&mut self, codes: &[u64]) -> Result<(), Refusal> {
         if !all_codes::<SAMPLED>(codes) {
             return Err(Refusal::NotCode);

@@ -1,7 +1,7 @@
 //! The multi-field challenger: it samples in a small domain, and its sponge lives in a larger one.
 #![tactic(auto)]
 
-ghost use Rattle.std.specs.Prelude.{◌*◌, ◌<◌, ◌≤◌, length};
+ghost use Rattle.std.specs.Prelude.{◌≡◌, ◌*◌, ◌<◌, ◌≤◌, length};
 ghost use Rattle.buffer.specs.Items.{items};
 
 use buffer::Buffer;
@@ -40,14 +40,24 @@ pub struct MultiField32Challenger<
 
 // Kept as written by hand: a derive refuses a struct with type parameters and ghost fields.
 impl<
-    F: Domain<SAMPLED> + Copy,
-    D: Domain<ORDER> + Copy,
-    P: CryptographicPermutation<D, ORDER> + Copy,
+    F: Domain<SAMPLED>,
+    D: Domain<ORDER>,
+    P: CryptographicPermutation<D, ORDER> + Clone,
     const SAMPLED: u64,
     const ORDER: u64,
 > Clone for MultiField32Challenger<F, D, P, SAMPLED, ORDER> {
+    ghost is_clone = { λ s t. ⟦<Sponge<D, P, ORDER> as Clone>⟧.is_clone s.sponge t.sponge × (t.numbers ≡ s.numbers) × (t.pending ≡ s.pending) × (t.squeeze ≡ s.squeeze) };
+
+    ghost is_infallible = { λ s. ⟦<Sponge<D, P, ORDER> as Clone>⟧.is_infallible s.sponge };
+
     fn clone(&self) -> Result<Self, AllocError> {
-        Ok(*self)
+        Ok(MultiField32Challenger {
+            sampled: PhantomData,
+            numbers: self.numbers,
+            sponge: self.sponge.clone()?,
+            pending: self.pending,
+            squeeze: self.squeeze,
+        })
     }
 }
 

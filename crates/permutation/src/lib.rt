@@ -67,8 +67,8 @@ impl Ladder {
     }
 }
 
-#[tactic(auto, unfolding(crate::specs::Ladder::ladder_step))]
 /// One step of round `r`: cell `i`, stirred, is added to cell `next` with `r + i + 1`.
+#[tactic(auto, unfolding(crate::specs::Ladder::ladder_step))]
 fn step<D: Domain<ORDER>, const ORDER: u64>(row: &mut [u64], r: u64, i: usize, next: usize)
     requires row { Row ORDER row.old }
     requires few { r < 16 }

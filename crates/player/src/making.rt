@@ -20,6 +20,7 @@ pub trait Playing {
     fn idle(&mut self, lines: &[Numbered<'_>]) -> Result<(), AllocError>;
 }
 
+// Kept as two parameters, here and below: a part is what is read, a player what is written.
 /// Goes on with a challenger, or after its refusal.
 fn begin_or_refuse<C: Played + Copy, P: Playing>(
     made: Result<C, Refusal>,

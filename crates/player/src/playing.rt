@@ -27,6 +27,7 @@ impl Sheet {
         Ok(self.messages.is_empty())
     }
 
+    /// Where its text lies.
     fn heap(&self) -> Global {
         *self.answers.allocator()
     }
@@ -68,6 +69,7 @@ impl Sheet {
         Ok(())
     }
 
+    /// Answers a finalize.
     fn finalize<C: Played>(&mut self, challenger: &C) -> Result<(), AllocError> {
         let digest = challenger.digest(self.heap())?;
         writeln!(
@@ -77,6 +79,7 @@ impl Sheet {
         )
     }
 
+    /// Answers a line where there is no challenger.
     fn idle_line(&mut self, line: &Numbered<'_>) -> Result<(), AllocError> {
         match read_line(self.heap(), line.text) {
             Ok(Line::Blank) => Ok(()),

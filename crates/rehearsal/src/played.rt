@@ -18,9 +18,11 @@ pub trait Played: Challenger {
     // The digest of what is held.
     ghost ending: { Self.Make → Self.Held → List ℕ };
 
+    /// What it holds, to be printed.
     fn held(&self) -> Held<'_>
         ensures { (result.row.now, result.pending.now, result.outputs.now) ≡ shown (Self.held self.now) };
 
+    /// Its digest, if it were finalized now.
     fn digest(&self, heap: Global) -> Result<Vec<u64>, AllocError>
         ensures { IfOk result (λ v. v.items ≡ ending (Self.make self.now) (Self.held self.now)) };
 }

@@ -15,6 +15,7 @@ pub struct Table {
     pub text: String,
 }
 
+// Kept as words: they are printed, and nothing is told by them.
 /// What the verifier called in the place of a call, in words.
 fn called_instead(heap: Global, turn: &Turn<'_>) -> Result<String, AllocError> {
     match (turn.call, turn.again) {
@@ -27,6 +28,7 @@ fn called_instead(heap: Global, turn: &Turn<'_>) -> Result<String, AllocError> {
 }
 
 impl Table {
+    /// Where its text lies.
     fn heap(&self) -> Global {
         *self.text.allocator()
     }
@@ -49,6 +51,7 @@ impl Table {
         self.same(make, answer, answer)
     }
 
+    /// Writes the row of a turn.
     fn turn(&mut self, turn: &Turn<'_>) -> Result<(), AllocError> {
         let heap = self.heap();
         let prover = turn.proved.to_string(heap)?;

@@ -18,6 +18,7 @@ pub fn steps<'a>(heap: Global, lines: &[Numbered<'a>]) -> Result<Vec<Step<'a>>, 
     let mut all = Vec::new(heap);
     // Kept as a `for`: reading a line allocates, and a closure under `filter_map` can't pass that failure on.
     for at in lines {
+        // A rehearsed script has only lines that can be read.
         let line = read_line(heap, at.text).map_err(|_| AllocError)?;
         if call_of(&line).is_some() {
             all.push(Step { at: *at, line })?;
@@ -56,6 +57,7 @@ fn again<'a>(
     Some((call, said.next().copied().unwrap_or(Answer::Absent)))
 }
 
+// Kept as lists beside one another: a run lends its calls and answers so, and from here on they are one list.
 /// The turns of a run.
 fn turns<'a>(
     heap: Global,

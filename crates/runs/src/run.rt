@@ -44,6 +44,7 @@ pub fn verify_run<C: Challenger>(
     ensures rest { drop result said.new ≡ drop result said.old }
     ensures make { C.make c.new ≡ C.make c.old }
 {
+    // Kept as a count of its own: it tells how many calls were repeated, which neither slice does.
     let mut n = 0;
     for (call, answer) in calls.iter().zip(proved) {
         if let Some(again) = instead(call, answer) {
@@ -54,6 +55,7 @@ pub fn verify_run<C: Challenger>(
     n
 }
 
+// Kept as slices of one length: the caller lends the places for answers, since nothing is allocated here.
 /// Agreement: the prover makes the calls, and the verifier repeats them. None, with nothing moved, if a slice for answers is not as long as the calls; else how many answers the verifier got.
 pub fn agree<P: Challenger, V: Challenger + Holding<Held = P::Held>>(
     prover: &mut P,

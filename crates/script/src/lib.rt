@@ -330,6 +330,7 @@ impl<'a> Rest<'a> {
     }
 }
 
+/// What a line says, by its first word.
 // Kept as matches on a word, here and above: the arms are the grammar's own table.
 fn read_words(heap: Global, text: &str) -> Result<Line, Fault<'_>>
     ensures { Gives meaning (entry (first_word text.now) (line_of text.now)) result }

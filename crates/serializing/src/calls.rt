@@ -16,6 +16,7 @@ impl<D: Domain<ORDER> + Copy, T: ByteGrindingChallenger + Copy, const ORDER: u64
     ghost stands = { λ k. checks_stand ORDER (T.meaning k) };
 
     fn call(&mut self, call: &Call) -> Answer {
+        // Kept as a match of each challenger: its arms are those of its rule, and challengers differ in the calls that they have.
         match call {
             Call::Observe(codes) => self
                 .observe(codes)

@@ -106,7 +106,7 @@ impl<D: Domain<ORDER>, T: ByteTranscript + Drop, const ORDER: u64> SerializingCh
 }
 
 impl<D: Domain<ORDER>, T: ByteTranscript, const ORDER: u64> SerializingChallenger32<D, T, ORDER> {
-    // Kept as the transcript's make and held value in each clause: the quotes of `make` and `held` of `Holding`'s impl are longer.
+    // Kept as the transcript's make and held value in each clause: they are the challenger's own, and a definition would only rename them.
     /// Observes a digest of bytes.
     pub fn observe_digest(&mut self, bytes: &[u8]) -> Result<(), Refusal>
         ensures does { Does (λ s. T.make s.inner) (λ s. T.held s.inner) self.old self.new result (observe_of (bytes_observed (T.meaning (T.make self.old.inner)) (T.held self.old.inner) bytes.now) (T.held self.old.inner)) }
@@ -121,8 +121,8 @@ impl<D: Domain<ORDER>, T: ByteTranscript, const ORDER: u64> SerializingChallenge
         observe_numbers(&mut self.inner, words, 8)
     }
 
-    #[tactic(auto, unfolding(crate::specs::Rules::sample_of))]
     /// A code: words are drawn until the kept bits of one are a code, within the draw limit.
+    #[tactic(auto, unfolding(crate::specs::Rules::sample_of))]
     pub fn sample(&mut self, limit: u64) -> Result<u64, Refusal>
         ensures does { Does (λ s. T.make s.inner) (λ s. T.held s.inner) self.old self.new result (sample_of ORDER (T.meaning (T.make self.old.inner)) (T.held self.old.inner) limit) }
     {
@@ -132,8 +132,8 @@ impl<D: Domain<ORDER>, T: ByteTranscript, const ORDER: u64> SerializingChallenge
         draw_below(self, ORDER, limit - 1).map_err(|(value, bound)| Refusal::NoDraw(value, bound))
     }
 
-    #[tactic(auto, unfolding(crate::specs::Rules::uniform_of))]
     /// The low bits of one word, once the bits and the draw limit are in order.
+    #[tactic(auto, unfolding(crate::specs::Rules::uniform_of))]
     pub fn sample_uniform_bits(&mut self, bits: u64, limit: u64) -> Result<u64, Refusal>
         ensures does { Does (λ s. T.make s.inner) (λ s. T.held s.inner) self.old self.new result (uniform_of ORDER (T.meaning (T.make self.old.inner)) (T.held self.old.inner) bits limit) }
     {

@@ -14,8 +14,9 @@ use refusal::Refusal;
 use transcript::{ByteGrindingChallenger, ByteTranscript, draw_word};
 
 impl<D: Domain<ORDER>, T: ByteTranscript, const ORDER: u64> SerializingChallenger32<D, T, ORDER> {
-    #[tactic(auto, unfolding(interface::specs::Grinding::check_of))]
+    // Kept beside `check_by_parts`: a check on the transcript itself makes no copy.
     /// Draws a byte and drops it, observes the witness, and says whether the bits drawn then are 0.
+    #[tactic(auto, unfolding(interface::specs::Grinding::check_of))]
     pub fn check(&mut self, bits: u64, witness: u64) -> Result<bool, Refusal>
         ensures does { Does (λ s. T.make s.inner) (λ s. T.held s.inner) self.old self.new result (check_of (means ORDER (T.meaning (T.make self.old.inner))) (T.held self.old.inner) bits witness) }
         ensures refusals { IfErr result (λ e. CheckRefused ORDER bits witness e) }

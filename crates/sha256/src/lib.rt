@@ -44,12 +44,14 @@ const INITIAL: Words = Words {
     h: 0x5be0cd19,
 };
 
+/// Bits of `f` where `e` has 1, and of `g` elsewhere.
 fn choose(e: u32, f: u32, g: u32) -> u32
     ensures { result ≡ Ch e f g }
 {
     (e & f) ^ (!e & g)
 }
 
+/// Each bit as most of the three have it.
 fn majority(a: u32, b: u32, c: u32) -> u32
     ensures { result ≡ Maj a b c }
 {
@@ -71,6 +73,8 @@ fn small_sigma<const A: u32, const B: u32, const C: u32>(x: u32) -> u32
     x.rotate_right(A) ^ x.rotate_right(B) ^ (x >> C)
 }
 
+/// The constant of round `t`.
+// Kept as a fact of a number, here and below: `t` is the standard's round.
 #[tactic(auto, unfolding(crate::specs::Sha256::K))]
 fn round_constant(t: usize) -> u32
     requires { t < 64 }
@@ -79,6 +83,7 @@ fn round_constant(t: usize) -> u32
     ROUND_CONSTANTS[t]
 }
 
+/// One round, with its constant and its word.
 #[tactic(auto, unfolding(crate::specs::Sha256::round))]
 fn one_round(s: Words, k: u32, w: u32) -> Words
     ensures { result ≡ round k w s }
@@ -107,6 +112,7 @@ fn block_words(block: &[u8; 64]) -> [u32; 64]
     ensures { take 16 result ≡ words block.now }
 {
     let mut w = [0u32; 64];
+    // Kept as an index: nothing is known of places that were written behind `iter_mut().zip(..)`.
     for (t, bytes) in block.as_chunks::<4>().0.iter().enumerate() {
         w[t] = u32::from_be_bytes(*bytes);
     }
@@ -143,7 +149,7 @@ fn round_ahead(v: Words, w: &mut [u32; 64], t: usize) -> Words
 }
 
 /// Rounds 0 to 47, each beside the word that it leaves time for.
-// Kept as eight rounds to a turn: one to a turn misses the bar of speed, at 0.9 times this.
+// Kept as eight rounds to a turn: one to a turn ran at 0.9 times this speed, and would miss that of portable C.
 fn first_rounds(s: Words, w: &mut [u32; 64]) -> Words
     ensures schedule { w.new ≡ schedule 48 (take 16 w.old) }
     ensures value { result ≡ rounds 48 w.new s }
@@ -183,6 +189,7 @@ fn last_rounds(made: Words, w: &[u32; 64]) -> Words
     v
 }
 
+/// The hash value after one block.
 #[tactic(auto, unfolding(crate::specs::Sha256::compressed))]
 fn compress(s: Words, block: &[u8; 64]) -> Words
     ensures { result ≡ compressed s block.now }
@@ -202,12 +209,14 @@ fn compress(s: Words, block: &[u8; 64]) -> Words
     }
 }
 
+/// The hash value after each block in turn.
 fn absorb(s: Words, blocks: &[[u8; 64]]) -> Words
     ensures { result ≡ fold compressed s blocks.now }
 {
     blocks.iter().fold(s, |h, block| compress(h, block))
 }
 
+/// The hash value as bytes, high bytes first.
 #[tactic(auto, unfolding(crate::specs::Sha256::bytes))]
 fn digest_bytes(s: Words) -> [u8; 32]
     ensures { result ≡ bytes s }

@@ -14,6 +14,7 @@ fn mix(a: [u64; 25], block: &[u8; 136]) -> [u64; 25]
     ensures { result ≡ mixed a block.now }
 {
     let mut s = a;
+    // Kept as an index: nothing is known of places that were written behind `iter_mut().zip(..)`.
     for (i, bytes) in block.as_chunks::<8>().0.iter().enumerate() {
         s[i] ^= u64::from_le_bytes(*bytes);
     }

@@ -32,10 +32,21 @@ pub struct Sponge<D: Domain<ORDER>, P: CryptographicPermutation<D, ORDER>, const
 }
 
 // Kept as written by hand: a derive refuses a struct with type parameters and ghost fields.
-impl<D: Domain<ORDER> + Copy, P: CryptographicPermutation<D, ORDER> + Copy, const ORDER: u64> Clone
+impl<D: Domain<ORDER>, P: CryptographicPermutation<D, ORDER> + Clone, const ORDER: u64> Clone
     for Sponge<D, P, ORDER> {
+    ghost is_clone = { λ s t. P.is_clone s.permutation t.permutation × (t.width ≡ s.width) × (t.rate ≡ s.rate) × (t.row ≡ s.row) × (t.outputs ≡ s.outputs) };
+
+    ghost is_infallible = { λ s. P.is_infallible s.permutation };
+
     fn clone(&self) -> Result<Self, AllocError> {
-        Ok(*self)
+        Ok(Sponge {
+            domain: PhantomData,
+            permutation: self.permutation.clone()?,
+            width: self.width,
+            rate: self.rate,
+            row: self.row,
+            outputs: self.outputs,
+        })
     }
 }
 

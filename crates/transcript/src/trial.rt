@@ -22,6 +22,7 @@ pub fn counted(candidates: u64) -> u64
     candidates.min(4294967296)
 }
 
+// Kept beside `grind_by_trial`: what is tried is a word under a mask, and nothing moves.
 /// What any transcript may use: each candidate is tried on a copy.
 pub fn find_by_trial<T: ByteTranscript + Copy>(
     transcript: &T,

@@ -9,7 +9,7 @@ pub returns-then-width-clause-make : goal.returns-then-width-clause-make
 returns-then-width-clause-make g c = λ rates arithmetics images.
     let s = c.args.self.now.sponge in
     let t = c.args.other.now.sponge in
-    let widths : s.width ≡ t.width = omega (arith, c.width.ensures.value, c.width-2.ensures.value, c.if-width.true) in
-    let rate : s.rate ≡ t.rate = omega (arith, eqb-true _ _ rates, c.rate.ensures.value, c.rate-then-width.ensures.value) in
+    let widths : s.width ≡ t.width = omega (arith, c.width.ensures, c.width-2.ensures, c.if-width.true) in
+    let rate : s.rate ≡ t.rate = omega (arith, eqb-true _ _ rates, c.rate.ensures, c.rate-then-width.ensures) in
     let same : making c.args.self.now ≡ making c.args.other.now = simp (arithmetics, images, widths, rate) in
     record { rules = λ h x. ap (λ k. rule g.row.SAMPLED k h x) same; fresh = ap (fresh g.row.SAMPLED) same }

@@ -1,7 +1,7 @@
 use Rattle.std.proofs.Common.{◌≡◌, drop}
 use Rattle.duplex.specs.Rules.{all_taken}
 use Rattle.duplex.specs.Holds.{held, make, making}
-use Rattle.duplex.proofs.bytes.DuplexChallengerByteTranscript.observe_bytes.Given as goal
+use Rattle.duplex.proofs.DuplexChallenger.take_bytes.Given as goal
 
 abbrev pub invariant-loop-b : goal.invariant-loop-b
 invariant-loop-b g l =

@@ -28,6 +28,7 @@ impl Sheet {
     }
 
     /// Where its text lies.
+    // Kept as a method of this type and of a table: each asks a field of its own.
     fn heap(&self) -> Global {
         *self.answers.allocator()
     }

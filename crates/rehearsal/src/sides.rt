@@ -29,6 +29,7 @@ fn called_instead(heap: Global, turn: &Turn<'_>) -> Result<String, AllocError> {
 
 impl Table {
     /// Where its text lies.
+    // Kept as a method of this type and of a sheet: each asks a field of its own.
     fn heap(&self) -> Global {
         *self.text.allocator()
     }

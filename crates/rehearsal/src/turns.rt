@@ -88,6 +88,7 @@ pub struct Ends<C> {
 
 impl<C: Played> Ends<C> {
     /// The prover makes the calls of the steps, and the verifier repeats them. It tells whether all its answers repeat the prover's.
+    // Kept as the turns and a yes or no: the table has a row for each turn, whether or not the runs agree.
     pub fn run<'a>(
         &mut self,
         heap: Global,

@@ -210,6 +210,7 @@ fn compress(s: Words, block: &[u8; 64]) -> Words
 }
 
 /// The hash value after each block in turn.
+// Kept as a function of each hash: the state, the length of a block and the step are all its own.
 fn absorb(s: Words, blocks: &[[u8; 64]]) -> Words
     ensures { result ≡ fold compressed s blocks.now }
 {

@@ -22,6 +22,7 @@ fn mix(a: [u64; 25], block: &[u8; 136]) -> [u64; 25]
 }
 
 /// Absorbs each block in turn.
+// Kept as a function of each hash: the state, the length of a block and the step are all its own.
 // Kept as a loop: as a fold over the blocks, whose state is an array, the proof of the same contract didn't close.
 #[tactic(auto, unfolding(crate::specs::Sha3::absorbed))]
 fn absorb(a: [u64; 25], blocks: &[[u8; 136]]) -> [u64; 25]

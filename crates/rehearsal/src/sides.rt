@@ -1,4 +1,7 @@
 // The table of the prover's and the verifier's run, side by side.
+ghost use Rattle.std.specs.Prelude.{IfOk, string_bytes};
+ghost use Rattle.rehearsal.specs.Tables.{Grows};
+
 use crate::lines::{Numbered, Part, before_finalize};
 use crate::played::Played;
 use crate::turns::{Ends, Turn, steps};
@@ -9,7 +12,7 @@ use runs::Call;
 use script::{Line, read_line};
 use std::alloc::{AllocError, Global};
 
-/// A table as it is written.
+/// A table as it is written. What stood in it stays at its front.
 #[derive(Drop)]
 pub struct Table {
     pub text: String,
@@ -35,7 +38,9 @@ impl Table {
     }
 
     /// Writes a row in which both sides answered the same call.
-    fn same(&mut self, at: &Numbered<'_>, prover: &str, verifier: &str) -> Result<(), AllocError> {
+    fn same(&mut self, at: &Numbered<'_>, prover: &str, verifier: &str) -> Result<(), AllocError>
+        ensures { IfOk result (λ _. Grows (string_bytes self.old.text) (string_bytes self.new.text)) }
+    {
         let row = Row {
             line: at.number,
             call: at.text,
@@ -47,13 +52,17 @@ impl Table {
     }
 
     /// Writes the names of the columns, and the line that makes a challenger.
-    fn begin(&mut self, make: &Numbered<'_>, answer: &str) -> Result<(), AllocError> {
+    fn begin(&mut self, make: &Numbered<'_>, answer: &str) -> Result<(), AllocError>
+        ensures { IfOk result (λ _. Grows (string_bytes self.old.text) (string_bytes self.new.text)) }
+    {
         writeln!(self.text, "{HEAD}")?;
         self.same(make, answer, answer)
     }
 
     /// Writes the row of a turn.
-    fn turn(&mut self, turn: &Turn<'_>) -> Result<(), AllocError> {
+    fn turn(&mut self, turn: &Turn<'_>) -> Result<(), AllocError>
+        ensures { IfOk result (λ _. Grows (string_bytes self.old.text) (string_bytes self.new.text)) }
+    {
         let heap = self.heap();
         let prover = turn.proved.to_string(heap)?;
         let instead = called_instead(heap, turn)?;
@@ -71,23 +80,30 @@ impl Table {
         writeln!(self.text, "{row}")
     }
 
+    /// Writes the row of a call where there is no challenger.
+    fn absent_line(&mut self, line: &Numbered<'_>) -> Result<(), AllocError>
+        ensures { IfOk result (λ _. Grows (string_bytes self.old.text) (string_bytes self.new.text)) }
+    {
+        match read_line(self.heap(), line.text) {
+            Ok(Line::Blank | Line::Held) => Ok(()),
+            _ => self.same(line, "no-challenger", "no-challenger"),
+        }
+    }
+
     /// Writes the rows of calls where there is no challenger.
-    fn absent(&mut self, lines: &[Numbered<'_>]) -> Result<(), AllocError> {
+    fn absent(&mut self, lines: &[Numbered<'_>]) -> Result<(), AllocError>
+        ensures { IfOk result (λ _. Grows (string_bytes self.old.text) (string_bytes self.new.text)) }
+    {
         for line in lines {
-            match read_line(self.heap(), line.text) {
-                Ok(Line::Blank | Line::Held) => {}
-                _ => self.same(line, "no-challenger", "no-challenger")?,
-            }
+            self.absent_line(line)?;
         }
         Ok(())
     }
 
     /// Writes the row of a finalize; tells whether both digests are the same.
-    fn digests<C: Played>(
-        &mut self,
-        at: &Numbered<'_>,
-        ends: &Ends<C>,
-    ) -> Result<bool, AllocError> {
+    fn digests<C: Played>(&mut self, at: &Numbered<'_>, ends: &Ends<C>) -> Result<bool, AllocError>
+        ensures { IfOk result (λ _. Grows (string_bytes self.old.text) (string_bytes self.new.text)) }
+    {
         let heap = self.heap();
         let proved = ends.prover.digest(heap)?;
         let said = ends.verifier.digest(heap)?;
@@ -98,7 +114,9 @@ impl Table {
     }
 
     /// Writes what both hold, or held before a finalize; tells whether it is the same.
-    fn held<C: Played>(&mut self, when: &str, ends: &Ends<C>) -> Result<bool, AllocError> {
+    fn held<C: Played>(&mut self, when: &str, ends: &Ends<C>) -> Result<bool, AllocError>
+        ensures { IfOk result (λ _. Grows (string_bytes self.old.text) (string_bytes self.new.text)) }
+    {
         let prover = ends.prover.held();
         let verifier = ends.verifier.held();
         if prover == verifier {
@@ -115,7 +133,9 @@ impl Table {
         &mut self,
         lines: &[Numbered<'_>],
         ends: &Ends<C>,
-    ) -> Result<bool, AllocError> {
+    ) -> Result<bool, AllocError>
+        ensures { IfOk result (λ _. Grows (string_bytes self.old.text) (string_bytes self.new.text)) }
+    {
         let Some((at, after)) = lines.split_first() else {
             return self.held("", ends);
         };
@@ -129,7 +149,9 @@ impl Table {
         &mut self,
         fresh: C,
         part: &Part<'_>,
-    ) -> Result<(), AllocError> {
+    ) -> Result<(), AllocError>
+        ensures { IfOk result (λ _. Grows (string_bytes self.old.text) (string_bytes self.new.text)) }
+    {
         self.begin(&part.make, "ok")?;
         let (before, after) = before_finalize(part.lines);
         let steps = steps(self.heap(), before)?;
@@ -151,7 +173,9 @@ impl Table {
     }
 
     /// Writes the table of a part whose make was refused.
-    pub fn refused(&mut self, refusal: &Refusal, part: &Part<'_>) -> Result<(), AllocError> {
+    pub fn refused(&mut self, refusal: &Refusal, part: &Part<'_>) -> Result<(), AllocError>
+        ensures { IfOk result (λ _. Grows (string_bytes self.old.text) (string_bytes self.new.text)) }
+    {
         let answer = refusal.to_string(self.heap())?;
         self.begin(&part.make, answer.as_str())?;
         self.absent(part.lines)?;
@@ -159,7 +183,9 @@ impl Table {
     }
 
     /// Writes the table of the lines before the first make, if they have a call.
-    pub fn unmade(&mut self, lines: &[Numbered<'_>]) -> Result<(), AllocError> {
+    pub fn unmade(&mut self, lines: &[Numbered<'_>]) -> Result<(), AllocError>
+        ensures { IfOk result (λ _. Grows (string_bytes self.old.text) (string_bytes self.new.text)) }
+    {
         let (before, after) = before_finalize(lines);
         if steps(self.heap(), before)?.is_empty() && after.is_empty() {
             return Ok(());

@@ -9,7 +9,7 @@ use std::{env, io};
 /// Hashes a text of 1,024 bytes `count` times, and each time writes two bytes of the digest into it.
 fn chain<H: CryptographicHasher<32>>(h: &H, count: u32) -> [u8; 32] {
     let mut text = [0u8; 1024];
-    // Kept as an index: a turn writes one place of the text, and goes over none.
+    // Kept as an index: a turn writes the place of its number and the first, and goes over none.
     for i in 0..count {
         let d = h.hash(&text);
         text[(i % 1024) as usize] = d[0];

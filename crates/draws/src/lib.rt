@@ -1,13 +1,14 @@
-//! Bounded draws: values are drawn until one is below a bound, within a limit.
+//! Drawing values: their low bits, and bounded draws, where values are drawn until one is below a bound, within a limit.
 #![tactic(auto)]
 
 ghost use Rattle.std.specs.Prelude.{◌≡◌, ℕ, ◌%◌, ◌^◌, ◌<◌};
-ghost use Rattle.interface.specs.Meaning.{Does, Reply};
-ghost use Rattle.draws.specs.Draws.{some_draws, draw_below};
+ghost use Rattle.interface.specs.Meaning.{Does, Reply, bits_of};
+ghost use Rattle.draws.specs.Draws.{some_draws, draw_below, bits_drawing};
 
-use interface::Holding;
+use interface::{Holding, few_bits};
+use refusal::Refusal;
 
-/// Drawing the values that a bounded draw takes or passes over.
+/// Drawing one value: a code, or what a bounded draw takes or passes over.
 pub trait CanDraw: Holding {
     // The value drawn, and what that leaves.
     ghost drawn: { Self.Make → Self.Held → Reply ℕ (Self.Held) };
@@ -16,7 +17,7 @@ pub trait CanDraw: Holding {
         ensures does { Does Self.make Self.held self.old self.new result (drawn (Self.make self.old) (Self.held self.old)) };
 }
 
-// Kept as a counted `loop` that yields by `break`, and with a pair as its refusal: the rules of the project name both forms.
+// Kept as a counted `loop` that yields by `break`, and with a pair as its refusal: both forms are asked of the project (docs/DECISIONS.md).
 /// Draws until a value is below the bound, at most once and `more` times. Refused, it tells the value drawn last and the bound.
 pub fn draw_below<C: CanDraw>(c: &mut C, bound: u64, more: u64) -> Result<u64, (u64, u64)>
     ensures does { Does C.make C.held c.old c.new result (draw_below (C.drawn (C.make c.old)) bound more (C.held c.old)) }
@@ -58,4 +59,14 @@ pub fn low_bits(value: u64, bits: u64) -> u64
     ensures below { result < 2 ^ bits }
 {
     value & (power(bits) - 1)
+}
+
+/// The low bits of one value drawn, once the bits are few enough for the order.
+pub fn draw_bits<C: CanDraw>(c: &mut C, order: u64, bits: u64) -> Result<u64, Refusal>
+    ensures does { Does C.make C.held c.old c.new result (bits_of (bits_drawing (C.drawn (C.make c.old)) order) (C.held c.old) bits) }
+{
+    if !few_bits(order, bits) {
+        return Err(Refusal::Bits);
+    }
+    Ok(low_bits(c.draw(), bits))
 }

@@ -1,12 +1,11 @@
 -- The rules of the duplex challenger, on what it holds.
-use Rattle.std.specs.Prelude.{ℕ, ◌%◌, ◌^◌, cond, ◌||◌, List, [], ◌∷◌, ◌++◌, length, replicate, Ok, Err, Result, ◌==◌, nat_lt}
-use Rattle.std.proofs.Common.{mod-lt, pow_pos}
+use Rattle.std.specs.Prelude.{ℕ, cond, ◌||◌, List, [], ◌∷◌, ◌++◌, length, replicate, Result, ◌==◌, nat_lt}
 use Rattle.refusal.specs.declared.Refusal.{Refusal}
-use Rattle.refusal.specs.declared.Refusal.TheVariants.{NotCode}
 use Rattle.interface.specs.Meaning.{Reply, reply, Drawing}
 use Rattle.interface.specs.Grinding.{Means}
+use Rattle.observing.specs.Observing.{codes_observed}
+use Rattle.draws.specs.Draws.{bits_drawing}
 use Rattle.sponge.specs.Sponge.{SpongeMake, SpongeState, last_output, without_last}
-use Rattle.domain.specs.Codes.{all_codes}
 use Rattle.sponge.specs.CodesBlock.{turned as sponge_turned}
 use Rattle.duplex.specs.declared.held.DuplexHeld.{DuplexHeld}
 
@@ -32,13 +31,9 @@ module _ {order : ℕ} (k : SpongeMake order) where
       let more : DuplexHeld = holding h.row (h.pending ++ (c ∷ [])) [] in
       cond (length more.pending == k.rate) (turned more) more
 
-  abbrev pub all_taken : DuplexHeld → List ℕ → DuplexHeld
-  all_taken h [] = h
-  all_taken h (c ∷ cs) = all_taken (taken h c) cs
-
-  -- what an observe leaves, or its refusal
+  -- what an observe leaves, or its refusal: the codes are taken in turn
   abbrev pub observed : DuplexHeld → List ℕ → Result DuplexHeld Refusal
-  observed h xs = cond (all_codes order xs) (Ok (all_taken h xs)) (Err NotCode)
+  observed = codes_observed order taken
 
   -- before a sample a turn comes, if codes are pending or no output is left
   unfoldable pub ready : DuplexHeld → DuplexHeld
@@ -53,7 +48,7 @@ module _ {order : ℕ} (k : SpongeMake order) where
 
   -- bits are the low bits of one sample
   abbrev pub drawing : Drawing DuplexHeld
-  drawing = record { order = order; drawn = λ h b. (sample_of h).said % 2 ^ b; after = λ h b. (sample_of h).left; below = λ h b. mod-lt _ (pow_pos b) }
+  drawing = bits_drawing sample_of order
 
   -- a check starts where it stands
   abbrev pub means : Means DuplexHeld

@@ -7,22 +7,24 @@ ghost use Rattle.runs.specs.Runs.{OneMake};
 ghost use Rattle.sponge.specs.SpongeHeld.{shaped, made, of_make, held as sponge_held, making as sponge_making, SameMake};
 ghost use Rattle.sponge.specs.CodesBlock.{turned as sponge_turned};
 ghost use Rattle.uniform.specs.Uniform.{uniform_of};
-ghost use Rattle.duplex.specs.Rules.{fresh as fresh_of, taken, all_taken, observed as observed_of, ready, sample_of, drawing as drawing_of, finalized};
+ghost use Rattle.observing.specs.Observing.{all_taken};
+ghost use Rattle.duplex.specs.Rules.{fresh as fresh_of, taken as taken_of, observed as observed_of, ready, sample_of, drawing as drawing_of, finalized};
 ghost use Rattle.duplex.specs.Holds.{held as held_in, make as make_of, making};
 ghost use Rattle.duplex.specs.Calls.{rule as rule_of};
 
 use crate::{DuplexChallenger, DuplexHeld};
 use buffer::Buffer;
-use domain::{Domain, all_codes};
-use draws::{CanDraw, low_bits};
-use interface::{CanObserve, CanSampleBits, Holding, few_bits};
+use domain::Domain;
+use draws::{CanDraw, draw_bits};
+use interface::{CanObserve, CanSampleBits, Holding};
+use observing::{CanTake, observe_codes};
 use permutation::CryptographicPermutation;
 use refusal::Refusal;
 use sponge::{Parameters, Sponge};
 use uniform::uniform_bits;
 
 /// One turn: what is pending is absorbed, if there is some, and the row is permuted.
-// Kept as a function of both: the challenger's own fact on room does not hold where RATE codes are pending.
+// Kept beside `Sponge::turn`, which it calls before it empties what is pending, and as a function of both: the challenger's own fact on room does not hold where RATE codes are pending.
 fn turn<D: Domain<ORDER>, P: CryptographicPermutation<D, ORDER>, const ORDER: u64>(
     sponge: &mut Sponge<D, P, ORDER>,
     pending: &mut Buffer<ORDER, 64>,
@@ -76,19 +78,26 @@ impl<D: Domain<ORDER>, P: CryptographicPermutation<D, ORDER>, const ORDER: u64> 
     ghost fresh = { λ m. fresh_of (of_make D.arithmetic P.image m) };
 }
 
+impl<D: Domain<ORDER>, P: CryptographicPermutation<D, ORDER>, const ORDER: u64> CanTake<ORDER>
+    for DuplexChallenger<D, P, ORDER> {
+    ghost taken = { λ m. taken_of (of_make D.arithmetic P.image m) };
+
+    #[tactic(auto, unfolding(crate::specs::Rules::taken, crate::specs::Rules::turned))]
+    fn take(&mut self, c: u64) {
+        self.sponge.drop_outputs();
+        self.pending.push(c);
+        if self.pending.len() == self.sponge.rate() {
+            turn(&mut self.sponge, &mut self.pending);
+        }
+    }
+}
+
 impl<D: Domain<ORDER>, P: CryptographicPermutation<D, ORDER>, const ORDER: u64> CanObserve
     for DuplexChallenger<D, P, ORDER> {
     ghost observed = { λ m. observed_of (of_make D.arithmetic P.image m) };
 
-    // Kept as methods of each challenger, here and below: they are the lines of its rule, over its own order and its own `take`.
     fn observe(&mut self, codes: &[u64]) -> Result<(), Refusal> {
-        if !all_codes::<ORDER>(codes) {
-            return Err(Refusal::NotCode);
-        }
-        for c in codes {
-            self.take(*c);
-        }
-        Ok(())
+        observe_codes(self, codes)
     }
 }
 
@@ -101,10 +110,7 @@ impl<D: Domain<ORDER>, P: CryptographicPermutation<D, ORDER>, const ORDER: u64> 
     }
 
     fn sample_bits(&mut self, bits: u64) -> Result<u64, Refusal> {
-        if !few_bits(ORDER, bits) {
-            return Err(Refusal::Bits);
-        }
-        Ok(low_bits(self.sample(), bits))
+        draw_bits(self, ORDER, bits)
     }
 }
 
@@ -122,20 +128,6 @@ impl<D: Domain<ORDER>, P: CryptographicPermutation<D, ORDER>, const ORDER: u64> 
     P,
     ORDER,
 > {
-    /// Takes one code.
-    #[tactic(auto, unfolding(crate::specs::Rules::taken, crate::specs::Rules::turned))]
-    fn take(&mut self, c: u64)
-        requires code { c < ORDER }
-        ensures state { held_in self.new ≡ taken (making self.old) (held_in self.old) c }
-        ensures make { make_of self.new ≡ make_of self.old }
-    {
-        self.sponge.drop_outputs();
-        self.pending.push(c);
-        if self.pending.len() == self.sponge.rate() {
-            turn(&mut self.sponge, &mut self.pending);
-        }
-    }
-
     /// One more turn, after which the outputs are the digest.
     #[tactic(auto, unfolding(crate::specs::Rules::turned))]
     fn finish(&mut self)
@@ -144,9 +136,10 @@ impl<D: Domain<ORDER>, P: CryptographicPermutation<D, ORDER>, const ORDER: u64> 
         turn(&mut self.sponge, &mut self.pending);
     }
 
+    // Kept beside `observe_codes`: bytes are codes of every domain, so nothing is asked and nothing refused.
     /// Takes bytes in turn, as codes.
     pub fn take_bytes(&mut self, bytes: &[u8])
-        ensures state { held_in self.new ≡ all_taken (making self.old) (held_in self.old) bytes.now }
+        ensures state { held_in self.new ≡ all_taken (taken_of (making self.old)) (held_in self.old) bytes.now }
         ensures make { make_of self.new ≡ make_of self.old }
     {
         for b in bytes {
@@ -167,6 +160,7 @@ impl<D: Domain<ORDER>, P: CryptographicPermutation<D, ORDER>, const ORDER: u64> 
         turn(&mut self.sponge, &mut self.pending);
     }
 
+    // Kept as a call of its own: the rules have one for digests beside the one for codes, and here both mean the same.
     /// Observes a digest: its codes.
     pub fn observe_digest(&mut self, codes: &[u64]) -> Result<(), Refusal>
         ensures does { Does make_of held_in self.old self.new result (observe_of (observed_of (making self.old) (held_in self.old) codes.now) (held_in self.old)) }
@@ -203,6 +197,7 @@ impl<D: Domain<ORDER>, P: CryptographicPermutation<D, ORDER>, const ORDER: u64> 
         self.width() == other.width() && self.rate() == other.rate()
     }
 
+    // Kept as readers of each challenger, here and below: a trait over both would want these lines in each impl, and an import of every caller.
     /// WIDTH.
     pub fn width(&self) -> usize
         ensures { result ≡ (make_of self.now).width }

@@ -12,7 +12,7 @@ impl<D: Domain<ORDER>, P: CryptographicPermutation<D, ORDER>, const ORDER: u64> 
     fn start_check(&mut self) {}
 }
 
-// Kept as an impl of each challenger: a body in the trait would ask `Copy` of every challenger.
+// Kept as an impl of each challenger: a body in the trait would ask `Copy` of every challenger, which the trait does not.
 impl<
     D: Domain<ORDER> + Copy,
     P: CryptographicPermutation<D, ORDER> + Copy,

@@ -20,7 +20,7 @@ pub use bytes::ByteDomain;
 pub use held::DuplexHeld;
 
 /// The duplex challenger over a domain and a permutation of its rows: a sponge, and the codes that wait to be absorbed.
-#[derive(Drop)]
+#[derive(Copy, Drop)]
 pub struct DuplexChallenger<
     D: Domain<ORDER>,
     P: CryptographicPermutation<D, ORDER>,
@@ -31,7 +31,7 @@ pub struct DuplexChallenger<
     ghost room: { length (items pending) < sponge.rate },
 }
 
-// Kept as written by hand: a derive refuses a struct with type parameters and ghost fields.
+// Kept as an impl by hand: `derive(Clone)` refuses a struct with type parameters and ghost fields, as `Copy` and `Drop` do not.
 impl<D: Domain<ORDER>, P: CryptographicPermutation<D, ORDER> + Clone, const ORDER: u64> Clone
     for DuplexChallenger<D, P, ORDER> {
     ghost is_clone = { λ s t. ⟦<Sponge<D, P, ORDER> as Clone>⟧.is_clone s.sponge t.sponge × (t.pending ≡ s.pending) };
@@ -45,6 +45,3 @@ impl<D: Domain<ORDER>, P: CryptographicPermutation<D, ORDER> + Clone, const ORDE
         })
     }
 }
-
-impl<D: Domain<ORDER> + Copy, P: CryptographicPermutation<D, ORDER> + Copy, const ORDER: u64> Copy
-    for DuplexChallenger<D, P, ORDER> {}

@@ -7,7 +7,7 @@ ghost use Rattle.encoding.specs.Encoding.{low_bytes, encoded};
 use refusal::Refusal;
 use transcript::ByteTranscript;
 
-// Kept as a size with its bounds: a const parameter would need the same bounds, since a type can't state them.
+// Kept as a size with its bounds: a struct with the bounds as ghost fields would be made of a literal at each call and taken apart here.
 /// Observes a number as its `size` low bytes, where they fit.
 fn put_number<T: ByteTranscript>(transcript: &mut T, number: u64, size: usize)
     requires bytes { size ≤ 8 }

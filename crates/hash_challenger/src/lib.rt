@@ -5,7 +5,7 @@ ghost use Rattle.std.specs.Prelude.{◌≡◌, ℕ, true, false, List, [], lengt
 ghost use Rattle.refusal.specs.declared.Refusal.TheVariants.{InitialState};
 ghost use Rattle.interface.specs.Meaning.{Does, observe_of};
 ghost use Rattle.hash_state.specs.Rules.{fresh, observed, sound, sample_of};
-ghost use Rattle.hash_state.specs.Holds.{held as held_in};
+ghost use Rattle.hash_challenger.specs.Holds.{held as held_in, make as make_of};
 ghost use Rattle.hash_challenger.specs.Meaning.{hash_transcript};
 
 use hash_state::{HashHeld, HashState, Prepared};
@@ -17,6 +17,7 @@ use transcript::{
 };
 
 /// The hash challenger over a hasher whose digests have `N` bytes.
+// Kept as a struct over `HashState`: what is held knows no hasher, and two crates stay quick to check, as each must-fail edit costs its crate's check.
 #[derive(Clone, Copy)]
 pub struct HashChallenger<H: CryptographicHasher<N>, const N: usize> {
     hasher: H,
@@ -26,7 +27,7 @@ pub struct HashChallenger<H: CryptographicHasher<N>, const N: usize> {
 impl<H: CryptographicHasher<N> + Drop, const N: usize> HashChallenger<H, N> {
     /// A fresh challenger, which holds the initial bytes and no output; refused if there are more than 1,024.
     pub fn new(initial: &[u8], hasher: H) -> Result<Self, Refusal>
-        ensures { MatchResult result (λ s. (nat_le (length initial.now) 1024 ≡ true) × (s.hasher ≡ hasher) × (held_in s.state ≡ fresh initial.now)) (λ e. (nat_le (length initial.now) 1024 ≡ false) × (e ≡ InitialState)) }
+        ensures { MatchResult result (λ s. (nat_le (length initial.now) 1024 ≡ true) × (make_of s ≡ hasher) × (held_in s ≡ fresh initial.now)) (λ e. (nat_le (length initial.now) 1024 ≡ false) × (e ≡ InitialState)) }
     {
         let state = HashState::new(initial)?;
         Ok(HashChallenger { hasher, state })
@@ -34,47 +35,46 @@ impl<H: CryptographicHasher<N> + Drop, const N: usize> HashChallenger<H, N> {
 
     /// Ends the challenger: the digest of the input.
     pub fn finalize(self) -> [u8; N]
-        ensures { result ≡ H.digest (held_in self.state).input }
+        ensures { result ≡ H.digest (held_in self).input }
     {
         self.hasher.hash(self.state.input())
     }
 }
 
-// Kept as the hasher and the held value in each clause: the struct has these two fields, and a definition would only rename them.
 impl<H: CryptographicHasher<N>, const N: usize> HashChallenger<H, N> {
     /// Observes all the bytes, or none if they exceed the room.
     pub fn observe(&mut self, bytes: &[u8]) -> Result<(), Refusal>
-        ensures does { Does (λ s. s.hasher) (λ s. held_in s.state) self.old self.new result (observe_of (observed (held_in self.old.state) bytes.now) (held_in self.old.state)) }
+        ensures does { Does make_of held_in self.old self.new result (observe_of (observed (held_in self.old) bytes.now) (held_in self.old)) }
     {
         self.state.observe(bytes)
     }
 
     /// Observes a digest: its bytes.
-    // Kept as a call of its own: a challenger has one for digests beside the one for bytes, and here both mean the same.
+    // Kept as a call of its own: the rules have one for digests beside the one for bytes, and here both mean the same.
     pub fn observe_digest(&mut self, bytes: &[u8]) -> Result<(), Refusal>
-        ensures does { Does (λ s. s.hasher) (λ s. held_in s.state) self.old self.new result (observe_of (observed (held_in self.old.state) bytes.now) (held_in self.old.state)) }
+        ensures does { Does make_of held_in self.old self.new result (observe_of (observed (held_in self.old) bytes.now) (held_in self.old)) }
     {
         self.observe(bytes)
     }
 
     /// The last output; if none is left, the input and the outputs first become the digest of the input. What is held is one of the values that can be.
     pub fn sample(&mut self) -> u8
-        ensures does { Does (λ s. s.hasher) (λ s. held_in s.state) self.old self.new result (sample_of H.digest (held_in self.old.state)) }
-        ensures sound { sound (held_in self.old.state) ≡ true }
+        ensures does { Does make_of held_in self.old self.new result (sample_of H.digest (held_in self.old)) }
+        ensures sound { sound (held_in self.old) ≡ true }
     {
         self.state.sample::<H, N>(&self.hasher)
     }
 
     /// The input, to be read.
     pub fn input(&self) -> &[u8]
-        ensures { result.now ≡ (held_in self.now.state).input }
+        ensures { result.now ≡ (held_in self.now).input }
     {
         self.state.input()
     }
 
     /// The outputs not yet taken, to be read.
     pub fn outputs(&self) -> &[u8]
-        ensures { result.now ≡ (held_in self.now.state).outputs }
+        ensures { result.now ≡ (held_in self.now).outputs }
     {
         self.state.outputs()
     }
@@ -84,7 +84,7 @@ impl<H: CryptographicHasher<N>, const N: usize> HashChallenger<H, N> {
         &self,
         other: &HashChallenger<I, M>,
     ) -> bool
-        ensures { Decides result (held_in self.now.state ≡ held_in other.now.state) }
+        ensures { Decides result (held_in self.now ≡ held_in other.now) }
     {
         self.state.same_held(&other.state)
     }
@@ -95,9 +95,9 @@ impl<H: CryptographicHasher<N>, const N: usize> Holding for HashChallenger<H, N>
 
     type Held = HashHeld;
 
-    ghost make = { λ s. s.hasher };
+    ghost make = { make_of };
 
-    ghost held = { λ s. held_in s.state };
+    ghost held = { held_in };
 
     // made with no initial bytes
     ghost fresh = { λ _. fresh [] };

@@ -21,6 +21,7 @@ pub struct ByteList {
 }
 
 /// The input, whose first `left` bytes are the outputs not yet taken: after a draw both come from one digest.
+// Kept as a count of a front of the input: a list of outputs would hold the same bytes again.
 #[derive(Clone, Copy)]
 pub struct HashState {
     input: ByteList,

@@ -59,7 +59,7 @@ pub trait GrindingChallenger: CanObserve + CanSampleBits + CanStartCheck {
     fn check_witness(&mut self, bits: u64, witness: u64) -> Result<bool, Refusal>
         ensures does { Does Self.make Self.held self.old self.new result (check_of (at_make Self.observed Self.drawing Self.started (Self.make self.old)) (Self.held self.old) bits witness) };
 
-    // Kept as a pair of the witness and the trials: the rules name this form.
+    // Kept as a pair of the witness and the trials: it is a form asked of the project (docs/DECISIONS.md).
     fn grind(&mut self, bits: u64, budget: u64) -> Result<(u64, u64), Refusal>
         ensures does { Does Self.make Self.held self.old self.new result (grind_of (at_make Self.observed Self.drawing Self.started (Self.make self.old)) (Self.held self.old) bits budget) }
         ensures least { LeastWitness (at_make Self.observed Self.drawing Self.started (Self.make self.old)) (Self.held self.old) bits budget (record { said = result; left = Self.held self.new }) };

@@ -5,7 +5,7 @@ ghost use Rattle.std.specs.Prelude.{◌≡◌};
 ghost use Rattle.keccak_spec.specs.Keccak.{χ};
 
 /// Each lane with the two to its right in its row.
-// Kept as 25 lanes written out: with `array::from_fn` over them the permutation ran at a quarter of its speed, which misses the bar.
+// Kept as 25 lanes written out: with `array::from_fn` over them SHA3-256 ran at a quarter of its speed, which misses the bar (docs/BENCHMARKS.md).
 // Each number `COPY` is code of its own, which the compiler can then put into its one place.
 pub fn chi<const COPY: usize>(a: &[u64; 25]) -> [u64; 25]
     ensures { result ≡ χ a.now }

@@ -25,7 +25,7 @@ pub fn refill<D: Domain<ORDER>, P: CryptographicPermutation<D, ORDER>, const ORD
     }
 }
 
-// Kept as a function with a count: it promises that many scalars of a word for every count, and Numbers has one count.
+// Kept as a function with a count: as a method of Numbers it would promise this of one count alone, which is less (docs/DECISIONS.md).
 /// Splits every output, in order.
 pub fn split_all<const SAMPLED: u64, const ORDER: u64>(
     squeeze: &mut Buffer<SAMPLED, 448>,

@@ -1,11 +1,12 @@
 -- The rules of the multi-field challenger, on what it holds.
-use Rattle.std.specs.Prelude.{ℕ, ◌*◌, ◌%◌, ◌^◌, cond, List, [], ◌∷◌, ◌++◌, length, replicate, Ok, Err, Result, ◌==◌, nat_lt}
-use Rattle.std.proofs.Common.{mod-lt, pow_pos}
+use Rattle.std.specs.Prelude.{ℕ, ◌*◌, cond, List, [], ◌∷◌, ◌++◌, length, replicate, Ok, Err, Result, ◌==◌, nat_lt}
 use Rattle.refusal.specs.declared.Refusal.{Refusal}
 use Rattle.refusal.specs.declared.Refusal.TheVariants.{NotCode}
 use Rattle.domain.specs.Codes.{all_codes}
 use Rattle.interface.specs.Meaning.{Reply, reply, Drawing}
 use Rattle.interface.specs.Grinding.{Means}
+use Rattle.observing.specs.Observing.{codes_observed}
+use Rattle.draws.specs.Draws.{bits_drawing}
 use Rattle.sponge.specs.Sponge.{SpongeMake, SpongeState, sponge_state, block_turn, empty_turn, last_output, without_last}
 use Rattle.bits.specs.CodeBits.{code_bits}
 use Rattle.packing.specs.Powers.{limbs, digits}
@@ -42,13 +43,9 @@ module _ {order : ℕ} (sampled : ℕ) (k : SpongeMake order) where
       let more : MultiHeld = holding h.row (h.pending ++ (c ∷ [])) [] [] in
       cond (length more.pending == limbs sampled order * k.rate) (flushed more) more
 
-  abbrev pub all_taken : MultiHeld → List ℕ → MultiHeld
-  all_taken h [] = h
-  all_taken h (c ∷ cs) = all_taken (taken h c) cs
-
-  -- what an observe leaves, or its refusal
+  -- what an observe leaves, or its refusal: the scalars are taken in turn
   abbrev pub observed : MultiHeld → List ℕ → Result MultiHeld Refusal
-  observed h xs = cond (all_codes sampled xs) (Ok (all_taken h xs)) (Err NotCode)
+  observed = codes_observed sampled taken
 
   -- a digest: both output lists are dropped, pending is flushed, if there is some, and the words are absorbed in groups of RATE
   unfoldable pub digested : MultiHeld → List ℕ → MultiHeld
@@ -74,7 +71,7 @@ module _ {order : ℕ} (sampled : ℕ) (k : SpongeMake order) where
 
   -- bits are the low bits of one sample
   abbrev pub drawing : Drawing MultiHeld
-  drawing = record { order = sampled; drawn = λ h b. (sample_of h).said % 2 ^ b; after = λ h b. (sample_of h).left; below = λ h b. mod-lt _ (pow_pos b) }
+  drawing = bits_drawing sample_of sampled
 
   -- a check starts where it stands
   abbrev pub means : Means MultiHeld

@@ -20,7 +20,7 @@ impl<
     ghost stands = { λ m. checks_stand SAMPLED (of_make D.arithmetic P.image m) };
 
     fn call(&mut self, call: &Call) -> Answer {
-        // Kept as a match of each challenger: its arms are those of its rule, and challengers differ in the calls that they have.
+        // Kept as a match of each challenger: a body in the trait would ask a trait for each call, and no two challengers have the same calls.
         match call {
             Call::Observe(codes) => self
                 .observe(codes)

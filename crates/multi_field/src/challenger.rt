@@ -4,7 +4,7 @@ ghost use Rattle.buffer.specs.Items.{items};
 ghost use Rattle.interface.specs.Meaning.{Does, observe_of};
 ghost use Rattle.runs.specs.Runs.{OneMake};
 ghost use Rattle.sponge.specs.SpongeHeld.{made};
-ghost use Rattle.multi_field.specs.Rules.{fresh as fresh_of, taken, settled, digest_observed, squeezed, ready, sample_of, finalized};
+ghost use Rattle.multi_field.specs.Rules.{fresh as fresh_of, settled, digest_observed, squeezed, ready, sample_of, finalized};
 ghost use Rattle.multi_field.specs.Holds.{held as held_in, make as make_of, making, first_no};
 ghost use Rattle.multi_field.specs.Calls.{rule as rule_of};
 
@@ -93,21 +93,6 @@ impl<
         self.squeeze.clear();
     }
 
-    /// Takes one scalar.
-    #[tactic(auto, unfolding(crate::specs::Rules::taken, crate::specs::Rules::flushed))]
-    pub(crate) fn take(&mut self, c: u64)
-        requires code { c < SAMPLED }
-        ensures state { held_in self.new ≡ taken SAMPLED (making self.old) (held_in self.old) c }
-        ensures make { make_of self.new ≡ make_of self.old }
-    {
-        self.sponge.drop_outputs();
-        self.squeeze.clear();
-        self.pending.push(c);
-        if self.pending.len() == self.numbers.limbs() * self.sponge.rate() {
-            flush(&self.numbers, &mut self.sponge, &mut self.pending);
-        }
-    }
-
     /// Observes a digest: words of the sponge's domain.
     #[tactic(auto, unfolding(crate::specs::Rules::digested, crate::specs::Rules::settled, crate::specs::Rules::flushed))]
     pub fn observe_digest(&mut self, words: &[u64]) -> Result<(), Refusal>
@@ -175,6 +160,7 @@ impl<
         self.width() == other.width() && self.rate() == other.rate()
     }
 
+    // Kept as readers of each challenger, here and below: a trait over both would want these lines in each impl, and an import of every caller.
     /// WIDTH.
     pub fn width(&self) -> usize
         ensures { result ≡ (make_of self.now).width }

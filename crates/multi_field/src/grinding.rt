@@ -17,7 +17,7 @@ impl<
     fn start_check(&mut self) {}
 }
 
-// Kept as an impl of each challenger: a body in the trait would ask `Copy` of every challenger.
+// Kept as an impl of each challenger: a body in the trait would ask `Copy` of every challenger, which the trait does not.
 impl<
     F: Domain<SAMPLED> + Copy,
     D: Domain<ORDER> + Copy,

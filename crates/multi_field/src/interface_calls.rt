@@ -1,12 +1,14 @@
 // What is held, observing, and drawing bits.
 ghost use Rattle.sponge.specs.SpongeHeld.{of_make};
-ghost use Rattle.multi_field.specs.Rules.{fresh as fresh_of, observed as observed_of, drawing as drawing_of};
+ghost use Rattle.multi_field.specs.Rules.{fresh as fresh_of, taken as taken_of, observed as observed_of, sample_of, drawing as drawing_of};
 ghost use Rattle.multi_field.specs.Holds.{held as held_in, make as make_of};
 
 use crate::{MultiField32Challenger, MultiHeld};
-use domain::{Domain, all_codes};
-use draws::low_bits;
-use interface::{CanObserve, CanSampleBits, Holding, few_bits};
+use domain::Domain;
+use draws::{CanDraw, draw_bits};
+use interface::{CanObserve, CanSampleBits, Holding};
+use multi_blocks::flush;
+use observing::{CanTake, observe_codes};
 use permutation::CryptographicPermutation;
 use refusal::Refusal;
 use sponge::Parameters;
@@ -35,18 +37,31 @@ impl<
     P: CryptographicPermutation<D, ORDER>,
     const SAMPLED: u64,
     const ORDER: u64,
+> CanTake<SAMPLED> for MultiField32Challenger<F, D, P, SAMPLED, ORDER> {
+    ghost taken = { λ m. taken_of SAMPLED (of_make D.arithmetic P.image m) };
+
+    #[tactic(auto, unfolding(crate::specs::Rules::taken, crate::specs::Rules::flushed))]
+    fn take(&mut self, c: u64) {
+        self.sponge.drop_outputs();
+        self.squeeze.clear();
+        self.pending.push(c);
+        if self.pending.len() == self.numbers.limbs() * self.sponge.rate() {
+            flush(&self.numbers, &mut self.sponge, &mut self.pending);
+        }
+    }
+}
+
+impl<
+    F: Domain<SAMPLED>,
+    D: Domain<ORDER>,
+    P: CryptographicPermutation<D, ORDER>,
+    const SAMPLED: u64,
+    const ORDER: u64,
 > CanObserve for MultiField32Challenger<F, D, P, SAMPLED, ORDER> {
     ghost observed = { λ m. observed_of SAMPLED (of_make D.arithmetic P.image m) };
 
-    // Kept as methods of each challenger, here and below: they are the lines of its rule, over its own order and its own `take`.
     fn observe(&mut self, codes: &[u64]) -> Result<(), Refusal> {
-        if !all_codes::<SAMPLED>(codes) {
-            return Err(Refusal::NotCode);
-        }
-        for c in codes {
-            self.take(*c);
-        }
-        Ok(())
+        observe_codes(self, codes)
     }
 }
 
@@ -64,9 +79,20 @@ impl<
     }
 
     fn sample_bits(&mut self, bits: u64) -> Result<u64, Refusal> {
-        if !few_bits(SAMPLED, bits) {
-            return Err(Refusal::Bits);
-        }
-        Ok(low_bits(self.sample(), bits))
+        draw_bits(self, SAMPLED, bits)
+    }
+}
+
+impl<
+    F: Domain<SAMPLED>,
+    D: Domain<ORDER>,
+    P: CryptographicPermutation<D, ORDER>,
+    const SAMPLED: u64,
+    const ORDER: u64,
+> CanDraw for MultiField32Challenger<F, D, P, SAMPLED, ORDER> {
+    ghost drawn = { λ m. sample_of SAMPLED (of_make D.arithmetic P.image m) };
+
+    fn draw(&mut self) -> u64 {
+        self.sample()
     }
 }

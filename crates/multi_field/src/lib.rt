@@ -21,7 +21,7 @@ mod interface_calls;
 pub use held::MultiHeld;
 
 /// The multi-field challenger: a sponge whose words are codes of `D`, the scalars of `F` that wait to be absorbed, and those that wait to be sampled.
-#[derive(Drop)]
+#[derive(Copy, Drop)]
 pub struct MultiField32Challenger<
     F: Domain<SAMPLED>,
     D: Domain<ORDER>,
@@ -38,7 +38,7 @@ pub struct MultiField32Challenger<
     ghost room: { length (items pending) < numbers.limbs * sponge.rate },
 }
 
-// Kept as written by hand: a derive refuses a struct with type parameters and ghost fields.
+// Kept as an impl by hand: `derive(Clone)` refuses a struct with type parameters and ghost fields, as `Copy` and `Drop` do not.
 impl<
     F: Domain<SAMPLED>,
     D: Domain<ORDER>,
@@ -60,11 +60,3 @@ impl<
         })
     }
 }
-
-impl<
-    F: Domain<SAMPLED> + Copy,
-    D: Domain<ORDER> + Copy,
-    P: CryptographicPermutation<D, ORDER> + Copy,
-    const SAMPLED: u64,
-    const ORDER: u64,
-> Copy for MultiField32Challenger<F, D, P, SAMPLED, ORDER> {}

@@ -3,6 +3,7 @@ ghost use Rattle.std.specs.Prelude.{◌≡◌, ◌^◌, ◌≤◌};
 ghost use Rattle.bits.specs.CodeBits.{code_bits};
 ghost use Rattle.packing.specs.Powers.{limbs, greatest_power, GreatestPower, Limbs};
 
+// Kept as facts of numbers, here and below: these functions make the numbers of a pair, and `Numbers` has the facts from then on.
 /// The greatest n with base^n at most the order.
 pub fn greatest_power(base: u64, order: u64) -> usize
     requires base { 2 ≤ base }

@@ -5,7 +5,7 @@ ghost use Rattle.packing.specs.Packing.{split};
 
 use buffer::Buffer;
 
-// Kept as a function with a count: it promises that many digits for every count, and Numbers has one count.
+// Kept as a function with a count: as a method of Numbers it would promise this of one count alone, which is less (docs/DECISIONS.md).
 /// Appends the lowest digits of the word, lowest first.
 pub fn push_digits<const SAMPLED: u64>(scalars: &mut Buffer<SAMPLED, 448>, word: u64, count: usize)
     requires low { 2 ≤ SAMPLED }

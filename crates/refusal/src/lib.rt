@@ -59,7 +59,7 @@ impl Refusal {
         }
     }
 
-    // Kept as a lent array with a count: a case has no array to lend, and a call does not allocate.
+    // Kept as a lent array with a count: a call does not allocate, and that the rest of the array stays is promised.
     /// Writes the values that the case carries to the front of `out`, and says how many they are.
     pub fn values(&self, out: &mut [u64; 2]) -> usize
         ensures count { result ≡ length (values self.now) }

@@ -16,7 +16,7 @@ impl<D: Domain<ORDER> + Copy, T: ByteGrindingChallenger + Copy, const ORDER: u64
     ghost stands = { λ k. checks_stand ORDER (T.meaning k) };
 
     fn call(&mut self, call: &Call) -> Answer {
-        // Kept as a match of each challenger: its arms are those of its rule, and challengers differ in the calls that they have.
+        // Kept as a match of each challenger: a body in the trait would ask a trait for each call, and no two challengers have the same calls.
         match call {
             Call::Observe(codes) => self
                 .observe(codes)

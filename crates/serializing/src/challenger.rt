@@ -49,6 +49,7 @@ impl<D: Domain<ORDER>, T: ByteTranscript, const ORDER: u64> CanSampleBits
         ORDER
     }
 
+    // Kept beside `draw_bits`: bits are the low ones of a whole word, as their definition says; of a draw, which keeps fewer, it would want a lemma that the rest counts for nothing.
     fn sample_bits(&mut self, bits: u64) -> Result<u64, Refusal> {
         if !few_bits(ORDER, bits) {
             return Err(Refusal::Bits);
@@ -106,7 +107,7 @@ impl<D: Domain<ORDER>, T: ByteTranscript + Drop, const ORDER: u64> SerializingCh
 }
 
 impl<D: Domain<ORDER>, T: ByteTranscript, const ORDER: u64> SerializingChallenger32<D, T, ORDER> {
-    // Kept as the transcript's make and held value in each clause: they are the challenger's own, and a definition would only rename them.
+    // Kept as the transcript's make and held value in each clause: the struct's type doesn't tell what `T` means, so a definition would be handed `T.make` and `T.held` in each place, and a clause of the struct has no `Self.make` (tried).
     /// Observes a digest of bytes.
     pub fn observe_digest(&mut self, bytes: &[u8]) -> Result<(), Refusal>
         ensures does { Does (λ s. T.make s.inner) (λ s. T.held s.inner) self.old self.new result (observe_of (bytes_observed (T.meaning (T.make self.old.inner)) (T.held self.old.inner) bytes.now) (T.held self.old.inner)) }

@@ -42,6 +42,7 @@ impl<D: Domain<ORDER> + Copy, T: ByteGrindingChallenger + Copy, const ORDER: u64
         self.check(bits, witness)
     }
 
+    // Kept beside `grind_by_trial`: it searches by the transcript's own `find_witness`, a form asked of the project (docs/DECISIONS.md).
     #[tactic(auto, unfolding(interface::specs::Grinding::grind_of))]
     fn grind(&mut self, bits: u64, budget: u64) -> Result<(u64, u64), Refusal> {
         if !few_bits(ORDER, bits) {

@@ -130,61 +130,42 @@ fn extend(w: &mut [u32; 64], t: usize)
         .wrapping_add(w[t]);
 }
 
-/// Round `t`, whose word is made.
-fn made_round(v: Words, w: &[u32; 64], t: usize) -> Words
+/// Round `t`, with its word.
+fn round_of(v: Words, w: &[u32; 64], t: usize) -> Words
     requires { t < 64 }
     ensures { result ≡ round (slice_index K t) (slice_index w.now t) v }
 {
     one_round(v, round_constant(t), w[t])
 }
 
-/// Makes the word of round `t + 16`, and beside it goes through round `t`, which leaves time for it.
-fn round_ahead(v: Words, w: &mut [u32; 64], t: usize) -> Words
-    requires { t < 48 }
-    ensures words { w.new ≡ slice_set w.old (t + 16) (next w.old (t + 16)) }
-    ensures value { result ≡ round (slice_index K t) (slice_index w.new t) v }
+/// The words of all rounds: those of the block, then each from those before it.
+fn all_words(block: &[u8; 64]) -> [u32; 64]
+    ensures { result ≡ schedule 48 (words block.now) }
 {
-    extend(w, t);
-    made_round(v, w, t)
+    let mut w = block_words(block);
+    // Kept as an index: each word is made from those at four places before it.
+    for t in 0..48 {
+        extend(&mut w, t);
+    }
+    w
 }
 
-/// Rounds 0 to 47, each beside the word that it leaves time for.
-// Kept as eight rounds to a turn: one to a turn ran at 0.9 times this speed, and would miss that of portable C.
-fn first_rounds(s: Words, w: &mut [u32; 64]) -> Words
-    ensures schedule { w.new ≡ schedule 48 (take 16 w.old) }
-    ensures value { result ≡ rounds 48 w.new s }
+/// All rounds.
+// Kept as eight rounds to a turn: with one, two or four it ran at 0.84 to 0.95 times this speed, and missed that of portable C (docs/BENCHMARKS.md).
+fn all_rounds(s: Words, w: &[u32; 64]) -> Words
+    ensures { result ≡ rounds 64 w.now s }
 {
     let mut v = s;
-    for turn in 0..6 {
+    for turn in 0..8 {
         let t = 8 * turn;
-        v = round_ahead(v, w, t);
-        v = round_ahead(v, w, t + 1);
-        v = round_ahead(v, w, t + 2);
-        v = round_ahead(v, w, t + 3);
-        v = round_ahead(v, w, t + 4);
-        v = round_ahead(v, w, t + 5);
-        v = round_ahead(v, w, t + 6);
-        v = round_ahead(v, w, t + 7);
-    }
-    v
-}
-
-/// Rounds 48 to 63, whose words are all made.
-// Kept as eight rounds to a turn, as those before them.
-fn last_rounds(made: Words, w: &[u32; 64]) -> Words
-    ensures { (s : Words) → made ≡ rounds 48 w.now s → result ≡ rounds 64 w.now s }
-{
-    let mut v = made;
-    for turn in 6..8 {
-        let t = 8 * turn;
-        v = made_round(v, w, t);
-        v = made_round(v, w, t + 1);
-        v = made_round(v, w, t + 2);
-        v = made_round(v, w, t + 3);
-        v = made_round(v, w, t + 4);
-        v = made_round(v, w, t + 5);
-        v = made_round(v, w, t + 6);
-        v = made_round(v, w, t + 7);
+        v = round_of(v, w, t);
+        v = round_of(v, w, t + 1);
+        v = round_of(v, w, t + 2);
+        v = round_of(v, w, t + 3);
+        v = round_of(v, w, t + 4);
+        v = round_of(v, w, t + 5);
+        v = round_of(v, w, t + 6);
+        v = round_of(v, w, t + 7);
     }
     v
 }
@@ -194,9 +175,8 @@ fn last_rounds(made: Words, w: &[u32; 64]) -> Words
 fn compress(s: Words, block: &[u8; 64]) -> Words
     ensures { result ≡ compressed s block.now }
 {
-    let mut w = block_words(block);
-    let first = first_rounds(s, &mut w);
-    let v = last_rounds(first, &w);
+    let w = all_words(block);
+    let v = all_rounds(s, &w);
     Words {
         a: v.a.wrapping_add(s.a),
         b: v.b.wrapping_add(s.b),

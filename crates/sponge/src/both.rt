@@ -16,6 +16,7 @@ fn is_turn<const ORDER: u64>(codes: &[u64], rate: usize) -> bool
     codes.len() <= rate && all_codes::<ORDER>(codes)
 }
 
+// Kept as a yes or no: the rules have no number for it, since no call of a challenger can be refused so.
 /// Gives the first sponge a turn with `left` and the second one with `right`, and answers true;
 /// answers false and moves nothing if one of them is no turn: longer than that sponge's rate, or with a number that is no code.
 pub fn turn_both<D: Domain<ORDER>, P: CryptographicPermutation<D, ORDER>, const ORDER: u64>(

@@ -17,8 +17,9 @@ mod parameters;
 pub use both::turn_both;
 pub use parameters::Parameters;
 
+// Kept with a width beside the row: what making fixed is told without the row, whose cells change.
 /// A row of `width` codes and its permutation. Blocks write the first `rate` cells, and outputs are read from them.
-#[derive(Drop)]
+#[derive(Copy, Drop)]
 pub struct Sponge<D: Domain<ORDER>, P: CryptographicPermutation<D, ORDER>, const ORDER: u64> {
     domain: PhantomData<D>,
     permutation: P,
@@ -31,7 +32,7 @@ pub struct Sponge<D: Domain<ORDER>, P: CryptographicPermutation<D, ORDER>, const
     ghost sized: { length (items row) ≡ width },
 }
 
-// Kept as written by hand: a derive refuses a struct with type parameters and ghost fields.
+// Kept as an impl by hand: `derive(Clone)` refuses a struct with type parameters and ghost fields, as `Copy` and `Drop` do not.
 impl<D: Domain<ORDER>, P: CryptographicPermutation<D, ORDER> + Clone, const ORDER: u64> Clone
     for Sponge<D, P, ORDER> {
     ghost is_clone = { λ s t. P.is_clone s.permutation t.permutation × (t.width ≡ s.width) × (t.rate ≡ s.rate) × (t.row ≡ s.row) × (t.outputs ≡ s.outputs) };
@@ -49,6 +50,3 @@ impl<D: Domain<ORDER>, P: CryptographicPermutation<D, ORDER> + Clone, const ORDE
         })
     }
 }
-
-impl<D: Domain<ORDER> + Copy, P: CryptographicPermutation<D, ORDER> + Copy, const ORDER: u64> Copy
-    for Sponge<D, P, ORDER> {}

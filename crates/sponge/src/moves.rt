@@ -14,6 +14,7 @@ impl<D: Domain<ORDER>, P: CryptographicPermutation<D, ORDER> + Drop, const ORDER
     ghost use Rattle.refusal.specs.declared.Refusal.TheVariants.{Shape};
     ghost use Rattle.sponge.specs.SpongeHeld.{shaped, Fresh};
 
+    // Kept as three parameters: they are a make (`Parameters`) only once the question on them is passed.
     /// Zeros, and no output; refused if the rate is 0 or not below the width, or the width is above 64.
     pub fn new(width: usize, rate: usize, permutation: P) -> Result<Self, Refusal>
         ensures { MatchResult result (Fresh width rate permutation) (λ e. (shaped width rate ≡ false) × (e ≡ Shape)) }

@@ -27,7 +27,7 @@ fn join(low: u64, high: u64, bits: u64, more: u64) -> u64
     low + high * power(bits)
 }
 
-// Kept as a pair for a refusal, and as numbers one by one: the rules name the pair; the order and single are a domain's, the bits and the limit a call's.
+// Kept as a pair for a refusal, a form asked of the project (docs/DECISIONS.md), and as numbers one by one: any order and single serve here, and a domain would ask more of a caller.
 /// The low bits of one bounded draw within the limit.
 #[tactic(auto, unfolding(crate::specs::Uniform::part_of))]
 fn draw_part<C: CanDraw>(c: &mut C, order: u64, bits: u64, limit: u64) -> Result<u64, (u64, u64)>

@@ -1,7 +1,7 @@
 use Rattle.std.proofs.Common.{◌<◌, sym, ◌∙◌, arith, below_more}
 use Rattle.transcript.specs.Transcript.{candidates_of}
 use Rattle.transcript.proofs.Sought.{sought-some, sought-none}
-use Rattle.hash_state.specs.Holds.{held}
+use Rattle.hash_challenger.specs.Holds.{held}
 use Rattle.hash_challenger.specs.Meaning.{hash_transcript}
 use Rattle.hash_challenger.proofs.Transcripts.{passes_is}
 use Rattle.hash_challenger.proofs.HashChallengerByteGrindingChallenger.find_witness.Goals as goal
@@ -9,7 +9,7 @@ use Rattle.hash_challenger.proofs.HashChallengerByteGrindingChallenger.find_witn
 pub returns-then-passes : goal.returns-then-passes
 returns-then-passes g c =
     let t = g.H.CryptographicHasher in
-    let h = held c.args.self.now.state in
+    let h = held c.args.self.now in
     let mask = c.args.mask in
     let w = c.loop-candidate.candidate in
     let inv = c.loop-candidate.invariant in
@@ -20,7 +20,7 @@ returns-then-passes g c =
 pub loop-candidate-preserved : goal.loop-candidate-preserved
 loop-candidate-preserved g c =
     let t = g.H.CryptographicHasher in
-    let h = held c.args.self.now.state in
+    let h = held c.args.self.now in
     let mask = c.args.mask in
     let w = c.loop-candidate.candidate in
     let inv = c.loop-candidate.invariant in
@@ -30,5 +30,5 @@ loop-candidate-preserved g c =
 pub returns : goal.returns
 returns g c =
     let t = g.H.CryptographicHasher in
-    let h = held c.args.self.now.state in
+    let h = held c.args.self.now in
     sym (sought-none (hash_transcript t.digest t.hashing) h c.args.candidates c.args.mask c.in_ok-prepared.ensures.0 (λ k lt. c.loop-candidate.invariant.1 k (omega arith)))

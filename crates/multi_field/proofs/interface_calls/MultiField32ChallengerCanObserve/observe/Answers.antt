@@ -1,9 +1,0 @@
-use Rattle.std.proofs.Common.{◌<◌, get_or, rules, sym, ◌∙◌}
-use Rattle.sponge.specs.CodesBlockLaws.{all_codes-codes}
-use Rattle.multi_field.proofs.interface_calls.MultiField32ChallengerCanObserve.observe.Goals as goal
-
-pub take-requires : goal.take-requires
-take-requires g c =
-    let code : get_or c.args.codes.now c.loop-c.c-index 0 < g.row.SAMPLED =
-    all_codes-codes g.row.SAMPLED c.args.codes.now (sym c.all_codes.ensures ∙ c.if-not-all_codes.false) c.loop-c.c-index c.loop-c-test.true in
-    search rules

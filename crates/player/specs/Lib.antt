@@ -1,2 +1,3 @@
 pub mod Admitted
 pub mod Spoken
+pub mod Hashes

@@ -50,7 +50,8 @@ fn fits(line: &Line) -> bool
     ensures { result ≡ admitted (meaning line.now) }
 {
     match line {
-        Line::Blank | Line::Held | Line::Finalize | Line::MakeDuplex(_) => true,
+        Line::Blank | Line::Held | Line::Finalize | Line::MakeDuplex(_) | Line::HashOf(_, _) =>
+            true,
         _ => call_of(line).is_some(),
     }
 }

@@ -1,14 +1,25 @@
 // The play of a script, line by line.
 ghost use Rattle.std.specs.Prelude.{◌≡◌, ◌↔◌, IfOk, IsTrue, string_len};
+ghost use Rattle.player.specs.Hashes.{named_digest};
 
 use crate::making::{Playing, play_parts};
 use printing::Listed;
 use refusal::Refusal;
 use rehearsal::Played;
 use rehearsal::lines::{Numbered, Part, before_finalize, call_of, split_lines};
-use script::{Fault, Line, read_line};
+use script::{Fault, HasherName, Line, read_line};
 use std::alloc::{AllocError, Global};
 use std::io;
+
+/// The digest of the bytes under the named hash function.
+fn digest_of(hasher: HasherName, bytes: &[u8]) -> [u8; 32]
+    ensures { result ≡ named_digest hasher bytes.now }
+{
+    match hasher {
+        HasherName::Sha256 => sha256::hash(bytes),
+        HasherName::Sha3_256 => sha3::hash(bytes),
+    }
+}
 
 /// What a play writes: an answer for each call, and a message for each line that cannot be read.
 #[derive(Drop)]
@@ -43,11 +54,18 @@ impl Sheet {
         writeln!(self.messages, "line {number}: {fault}")
     }
 
+    /// Answers a line that asks for a digest.
+    fn hash(&mut self, hasher: HasherName, bytes: &[u8]) -> Result<(), AllocError> {
+        let digest = hex::encode(self.heap(), digest_of(hasher, bytes))?;
+        writeln!(self.answers, "ok {digest}")
+    }
+
     /// Answers what a line says, which is no finalize.
     fn answer<C: Played>(&mut self, challenger: &mut C, line: &Line) -> Result<(), AllocError> {
         match line {
             Line::Blank => Ok(()),
             Line::Held => writeln!(self.answers, "held {}", challenger.held()),
+            Line::HashOf(hasher, bytes) => self.hash(*hasher, bytes.as_slice()),
             _ => match call_of(line) {
                 Some(call) => writeln!(self.answers, "{}", challenger.call(&call)),
                 None => writeln!(self.answers, "no-call"),
@@ -84,6 +102,7 @@ impl Sheet {
     fn idle_line(&mut self, line: &Numbered<'_>) -> Result<(), AllocError> {
         match read_line(self.heap(), line.text) {
             Ok(Line::Blank) => Ok(()),
+            Ok(Line::HashOf(hasher, bytes)) => self.hash(hasher, bytes.as_slice()),
             Ok(_) => writeln!(self.answers, "no-challenger"),
             Err(fault) => self.bad_line(line, fault),
         }

@@ -2,7 +2,7 @@
 use Rattle.std.specs.Prelude.{Some, None, Option}
 use Rattle.runs.specs.declared.call.Call.{Call}
 use Rattle.runs.specs.declared.call.Call.TheVariants.{Observe, ObserveDigest, Sample, SampleBits, UniformBits, CheckWitness, Grind}
-use Rattle.script.specs.Grammar.{Said, to_blank, to_make_duplex, to_observe, to_digest, to_digest64, to_sample, to_bits, to_uniform, to_check, to_grind, to_find, to_held, to_finalize}
+use Rattle.script.specs.Grammar.{Said, to_blank, to_make_duplex, to_observe, to_digest, to_digest64, to_sample, to_bits, to_uniform, to_check, to_grind, to_find, to_held, to_finalize, to_hash_of}
 
 -- what a line says that asks for a call
 abbrev pub said_for : Call → Said
@@ -30,3 +30,4 @@ called (to_grind p) = Some (to_grind p)
 called (to_find p) = None
 called to_held = None
 called to_finalize = None
+called (to_hash_of h bs) = None

@@ -85,7 +85,7 @@ impl Table {
         ensures { IfOk result (λ _. Grows (string_bytes self.old.text) (string_bytes self.new.text)) }
     {
         match read_line(self.heap(), line.text) {
-            Ok(Line::Blank | Line::Held) => Ok(()),
+            Ok(Line::Blank | Line::Held | Line::HashOf(_, _)) => Ok(()),
             _ => self.same(line, "no-challenger", "no-challenger"),
         }
     }

@@ -5,7 +5,9 @@ use Rattle.script.specs.declared.DomainName.{DomainName}
 use Rattle.script.specs.declared.DomainName.TheVariants.{Bytes, BabyBear, KoalaBear, Goldilocks}
 use Rattle.script.specs.declared.PermutationName.{PermutationName}
 use Rattle.script.specs.declared.PermutationName.TheVariants.{Mirror, Ladder}
-use Rattle.script.specs.Words.{first_word, after_word, number_of, then, one_of, two_of, optional_of, numbers_of, entry}
+use Rattle.script.specs.declared.HasherName.{HasherName}
+use Rattle.script.specs.declared.HasherName.TheVariants.{Sha256, Sha3_256}
+use Rattle.script.specs.Words.{first_word, after_word, number_of, bytes_of, then, one_of, two_of, optional_of, numbers_of, entry}
 
 pub data Said : Type 0 where
   to_blank : Said
@@ -21,6 +23,7 @@ pub data Said : Type 0 where
   to_find : ℕ × ℕ → Said
   to_held : Said
   to_finalize : Said
+  to_hash_of : HasherName → List ℕ → Said
 
 abbrev pub domain_of : List ℕ → Option DomainName
 domain_of w = entry w (
@@ -36,6 +39,13 @@ after front w = cond (bytes_eq (take (length front) w) front) (Some (drop (lengt
 
 abbrev pub permutation_of : List ℕ → Option PermutationName
 permutation_of w = cond (bytes_eq w (codes "mirror")) (Some Mirror) (then (after (codes "ladder:") w) (λ t. then (number_of t) (λ n. Some (Ladder n))))
+
+abbrev pub hasher_of : List ℕ → Option HasherName
+hasher_of w = entry w ((codes "sha256", Some Sha256) ∷ (codes "sha3-256", Some Sha3_256) ∷ [])
+
+-- HASHER HEX
+abbrev pub hash_of : Option (List ℕ) → Option Said
+hash_of rest = then rest (λ t. then (hasher_of (first_word t)) (λ h. then (after_word t) (λ u. then (bytes_of u) (λ bs. Some (to_hash_of h bs)))))
 
 -- DOMAIN PERM WIDTH RATE
 abbrev pub duplex_of : Option (List ℕ) → Option Said
@@ -69,7 +79,7 @@ calls rest =
     ∷ pairs rest
 
 abbrev pub line_of : List ℕ → List (List ℕ × Option Said)
-line_of t = (codes "make", make_of (after_word t)) ∷ calls (after_word t)
+line_of t = (codes "make", make_of (after_word t)) ∷ (codes "hashof", hash_of (after_word t)) ∷ calls (after_word t)
 
 -- an empty line, or one that starts with #
 abbrev pub skipped : List ℕ → Bool

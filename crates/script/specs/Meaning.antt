@@ -5,8 +5,8 @@ use Rattle.script.specs.declared.Fault.{Fault}
 use Rattle.script.specs.declared.Fault.TheVariants.{Memory}
 use Rattle.script.specs.declared.Rest.{Rest}
 use Rattle.script.specs.declared.Line.{Line}
-use Rattle.script.specs.declared.Line.TheVariants.{Blank, MakeDuplex, Observe, Digest, Digest64, Sample, Bits, Uniform, Check, Grind, Find, Held, Finalize}
-use Rattle.script.specs.Grammar.{Said, to_blank, to_make_duplex, to_observe, to_digest, to_digest64, to_sample, to_bits, to_uniform, to_check, to_grind, to_find, to_held, to_finalize}
+use Rattle.script.specs.declared.Line.TheVariants.{Blank, MakeDuplex, Observe, Digest, Digest64, Sample, Bits, Uniform, Check, Grind, Find, Held, Finalize, HashOf}
+use Rattle.script.specs.Grammar.{Said, to_blank, to_make_duplex, to_observe, to_digest, to_digest64, to_sample, to_bits, to_uniform, to_check, to_grind, to_find, to_held, to_finalize, to_hash_of}
 
 abbrev pub meaning : Line → Said
 meaning Blank = to_blank
@@ -22,6 +22,7 @@ meaning (Grind b n) = to_grind (b, n)
 meaning (Find n m) = to_find (n, m)
 meaning Held = to_held
 meaning Finalize = to_finalize
+meaning (HashOf h v) = to_hash_of h (vec_items v)
 
 -- the text that is left
 abbrev pub left : Rest → Option (List ℕ)

@@ -1,5 +1,7 @@
 -- The words of a text, and the numbers that they write. Assumes nothing.
-use Rattle.std.specs.Prelude.{ℕ, ◌^◌, Bool, cond, ◌&&◌, List, [], ◌∷◌, length, Some, None, Option, ◌==◌, nat_lt}
+use Rattle.std.specs.Prelude.{ℕ, ◌^◌, Bool, cond, ◌&&◌, List, [], ◌∷◌, length, Some, None, Option, codes, ◌==◌, nat_lt}
+use Rattle.std.specs.Result.{result_ok}
+use Rattle.hex.specs.Hex.{decode_of}
 use Rattle.std.specs.Str.Parse.{digits_value}
 use Rattle.std.specs.Str.{all_ascii_digits, bytes_eq}
 
@@ -28,6 +30,10 @@ is_number ds = nat_lt 0 (length ds) && (all_ascii_digits ds && nat_lt (digits_va
 
 abbrev pub number_of : List ℕ → Option ℕ
 number_of ds = cond (is_number ds) (Some (digits_value 10 ds)) None
+
+-- the bytes that a word writes, each as two hex digits; a dash writes none
+abbrev pub bytes_of : List ℕ → Option (List ℕ)
+bytes_of w = cond (length w == 0) None (cond (bytes_eq w (codes "-")) (Some []) (result_ok (decode_of w)))
 
 -- both, or neither
 abbrev pub both : {X Y Z : Type 0} → (X → Y → Z) → Option X → Option Y → Option Z

@@ -6,11 +6,12 @@ ghost use Rattle.std.specs.Option.{option_map};
 ghost use Rattle.std.specs.Result.{result_ok};
 ghost use Rattle.std.specs.Iterator.{YieldsFirstRef, item_count};
 ghost use Rattle.script.specs.declared.Fault.TheVariants.{Memory};
-ghost use Rattle.script.specs.Words.{first_word, after_word, words_of, number_of, one_of, two_of, optional_of, numbers_of, entry};
-ghost use Rattle.script.specs.Grammar.{domain_of, permutation_of, duplex_of, make_of, nothing_of, pairs, calls, line_of, said_by};
+ghost use Rattle.script.specs.Words.{first_word, after_word, words_of, number_of, one_of, two_of, optional_of, numbers_of, bytes_of, entry};
+ghost use Rattle.script.specs.Grammar.{domain_of, permutation_of, hasher_of, hash_of, duplex_of, make_of, nothing_of, pairs, calls, line_of, said_by};
 ghost use Rattle.script.specs.Meaning.{meaning, left, Gives};
 ghost use Rattle.script.specs.Spoken.{part_words, fault_words};
 
+use hex::FromHexError;
 use std::alloc::{AllocFailed, Global};
 use std::fmt;
 
@@ -28,6 +29,13 @@ pub enum DomainName {
 pub enum PermutationName {
     Mirror,
     Ladder(u64),
+}
+
+/// A hash function.
+#[derive(Clone, Copy)]
+pub enum HasherName {
+    Sha256,
+    Sha3_256,
 }
 
 /// What a duplex challenger is made of.
@@ -61,6 +69,8 @@ pub enum Line {
     Find(u64, u64),
     Held,
     Finalize,
+    /// The hash function and the bytes.
+    HashOf(HasherName, Vec<u8>),
 }
 
 /// What the format has and this build does not play.
@@ -69,7 +79,6 @@ pub enum Part {
     MultiField,
     Hash,
     Serializing,
-    HashOf,
     Helpers,
 }
 
@@ -81,7 +90,9 @@ pub enum Fault<'a> {
     UnknownChallenger(&'a str),
     UnknownDomain(&'a str),
     UnknownPermutation(&'a str),
+    UnknownHasher(&'a str),
     NotNumber(&'a str),
+    NotHex(&'a str),
     TooFew,
     TooMany,
     NotInBuild(Part),
@@ -104,7 +115,6 @@ impl fmt::Display for Part {
             Part::MultiField => write!(f, "multi-field challenger"),
             Part::Hash => write!(f, "hash challenger"),
             Part::Serializing => write!(f, "serializing challenger"),
-            Part::HashOf => write!(f, "call hashof"),
             Part::Helpers => write!(f, "call helpers"),
         }
     }
@@ -120,7 +130,9 @@ impl fmt::Display for Fault<'_> {
             Fault::UnknownChallenger(word) => write!(f, "there is no challenger {word:?}"),
             Fault::UnknownDomain(word) => write!(f, "there is no domain {word:?}"),
             Fault::UnknownPermutation(word) => write!(f, "there is no permutation {word:?}"),
+            Fault::UnknownHasher(word) => write!(f, "there is no hash function {word:?}"),
             Fault::NotNumber(word) => write!(f, "this is no decimal number below 2^64: {word:?}"),
+            Fault::NotHex(word) => write!(f, "these are no pairs of hex digits: {word:?}"),
             Fault::TooFew => write!(f, "a word is missing"),
             Fault::TooMany => write!(f, "there are more words than the call takes"),
             Fault::NotInBuild(part) => write!(f, "this build has no {part}"),
@@ -211,6 +223,38 @@ impl<'a> TryFrom<&'a str> for PermutationName {
     }
 }
 
+impl<'a> TryFrom<&'a str> for HasherName {
+    type Error = Fault<'a>;
+
+    ghost try_from_gives = { λ word r. result_ok r ≡ hasher_of word.now };
+
+    fn try_from(word: &'a str) -> Result<Self, Fault<'a>> {
+        match word {
+            "sha256" => Ok(HasherName::Sha256),
+            "sha3-256" => Ok(HasherName::Sha3_256),
+            _ => Err(Fault::UnknownHasher(word)),
+        }
+    }
+}
+
+/// The bytes that a word writes, each as two hex digits; `-` writes none.
+fn bytes(heap: Global, word: &str) -> Result<Vec<u8>, Fault<'_>>
+    ensures { Gives vec_items (bytes_of word.now) result }
+{
+    if word.is_empty() {
+        return Err(Fault::NotHex(word));
+    }
+    if word == "-" {
+        return Ok(Vec::new(heap));
+    }
+    match hex::decode(heap, word) {
+        Ok(bytes) => Ok(bytes),
+        Err(FromHexError::OutOfMemory) => Err(Fault::Memory),
+        Err(_) if word.contains(' ') => Err(Fault::TooMany),
+        Err(_) => Err(Fault::NotHex(word)),
+    }
+}
+
 impl<'a> Rest<'a> {
     /// One number.
     fn one(self) -> Result<u64, Fault<'a>>
@@ -272,6 +316,16 @@ impl<'a> Rest<'a> {
             width,
             rate,
         }))
+    }
+
+    /// HASHER HEX.
+    fn hash_of(self, heap: Global) -> Result<Line, Fault<'a>>
+        ensures { Gives meaning (hash_of (left self.entry)) result }
+    {
+        let (first, rest) = cut(self.text.ok_or(Fault::TooFew)?);
+        let hasher = HasherName::try_from(first)?;
+        let text = bytes(heap, rest.text.ok_or(Fault::TooFew)?)?;
+        Ok(Line::HashOf(hasher, text))
     }
 
     /// What a challenger is made of.
@@ -338,7 +392,7 @@ fn read_words(heap: Global, text: &str) -> Result<Line, Fault<'_>>
     let (name, rest) = cut(text);
     match name {
         "make" => rest.make(),
-        "hashof" => Err(Fault::NotInBuild(Part::HashOf)),
+        "hashof" => rest.hash_of(heap),
         "helpers" => Err(Fault::NotInBuild(Part::Helpers)),
         _ => rest.call(heap, name),
     }
@@ -418,6 +472,24 @@ mod tests {
                 "there is no permutation \"ladder\"",
             ),
             ("make hash sha256 -", "this build has no hash challenger"),
+            ("hashof sha256 -", "ok"),
+            ("hashof sha3-256 616263", "ok"),
+            ("hashof sha3-256 aF", "ok"),
+            ("hashof sha512 -", "there is no hash function \"sha512\""),
+            ("hashof sha256", "a word is missing"),
+            ("hashof sha256 ", "words are separated by one space"),
+            (
+                "hashof sha256 616",
+                "these are no pairs of hex digits: \"616\"",
+            ),
+            (
+                "hashof sha256 6g",
+                "these are no pairs of hex digits: \"6g\"",
+            ),
+            (
+                "hashof sha256 61 62",
+                "there are more words than the call takes",
+            ),
         ];
         for (text, want) in table {
             let got = told(rt.alloc(), text)?;

@@ -1,4 +1,4 @@
-//! Plays the worked cases of the duplex challenger, and input at every limit.
+//! Plays the worked cases of the duplex challenger, input at every limit, and digests of bytes.
 #![tactic(auto)]
 
 use std::{fs, io};
@@ -16,5 +16,6 @@ fn play(rt: &HostRuntime, path: &str) -> io::Result<()> {
 
 fn main(rt: HostRuntime) -> io::Result<()> {
     play(&rt, "worked.txt")?;
-    play(&rt, "limits.txt")
+    play(&rt, "limits.txt")?;
+    play(&rt, "hashes.txt")
 }

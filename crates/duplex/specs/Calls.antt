@@ -1,23 +1,28 @@
 -- The calls of a duplex challenger as values.
 use Rattle.std.specs.Prelude.{ℕ, refl}
-use Rattle.interface.specs.Meaning.{observe_of, bits_of}
+use Rattle.interface.specs.Meaning.{reply, observe_of, bits_of}
 use Rattle.interface.specs.Grinding.{check_of, grind_of}
-use Rattle.runs.specs.declared.call.Call.TheVariants.{Observe, ObserveDigest, Sample, SampleBits, UniformBits, CheckWitness, Grind}
-use Rattle.runs.specs.declared.call.Answer.TheVariants.{Code}
+use Rattle.runs.specs.declared.call.Call.TheVariants.{Observe, ObserveDigest, ObserveBytes, ObserveDigestBytes, ObserveDigestWords, Sample, SampleWithin, SampleBits, UniformBits, CheckWitness, Grind}
+use Rattle.runs.specs.declared.call.Answer.TheVariants.{Done, Code, Absent}
 use Rattle.runs.specs.Answers.{as_done, as_bits, as_checked, as_ground, answered}
 use Rattle.runs.specs.Runs.{Rule, ChecksStand}
 use Rattle.runs.specs.RunLaws.{checks_stand}
 use Rattle.sponge.specs.Sponge.{SpongeMake}
 use Rattle.uniform.specs.Uniform.{uniform_of}
 use Rattle.duplex.specs.declared.held.DuplexHeld.{DuplexHeld}
-use Rattle.duplex.specs.Rules.{observed, sample_of, drawing, means}
+use Rattle.observing.specs.Observing.{all_taken}
+use Rattle.duplex.specs.Rules.{taken, observed, sample_of, drawing, means}
 
 module _ {order : ℕ} (k : SpongeMake order) where
-  -- what each call says and leaves; observing a digest is observing
+  -- what each call says and leaves; observing a digest is observing, bytes are codes of every domain, and a call that it does not have moves nothing
   abbrev pub rule : Rule DuplexHeld
   rule h (Observe xs) = answered as_done (observe_of (observed k h xs.now) h)
   rule h (ObserveDigest xs) = answered as_done (observe_of (observed k h xs.now) h)
+  rule h (ObserveBytes xs) = reply Done (all_taken (taken k) h xs.now)
+  rule h (ObserveDigestBytes xs) = reply Done (all_taken (taken k) h xs.now)
+  rule h (ObserveDigestWords xs) = reply Absent h
   rule h Sample = answered Code (sample_of k h)
+  rule h (SampleWithin l) = reply Absent h
   rule h (SampleBits b) = answered as_bits (bits_of (drawing k) h b)
   rule h (UniformBits b l) = answered as_bits (uniform_of (sample_of k) order k.arithmetic.single h b l)
   rule h (CheckWitness b w) = answered as_checked (check_of (means k) h b w)

@@ -26,6 +26,10 @@ impl<
             Call::ObserveDigest(codes) => self
                 .observe_digest(codes)
                 .map_or_else(Answer::Refused, |()| Answer::Done),
+            Call::ObserveBytes(bytes) | Call::ObserveDigestBytes(bytes) => {
+                self.take_bytes(bytes);
+                Answer::Done
+            }
             Call::Sample => Answer::Code(self.sample()),
             Call::SampleBits(bits) => self
                 .sample_bits(*bits)
@@ -40,6 +44,7 @@ impl<
                 Answer::Refused,
                 |(witness, trials)| Answer::Ground(witness, trials),
             ),
+            Call::ObserveDigestWords(_) | Call::SampleWithin(_) => Answer::Absent,
         }
     }
 }

@@ -5,8 +5,12 @@ ghost use Rattle.std.specs.Prelude.{◌≡◌, ℕ, true, false, List, [], lengt
 ghost use Rattle.refusal.specs.declared.Refusal.TheVariants.{InitialState};
 ghost use Rattle.interface.specs.Meaning.{Does, observe_of};
 ghost use Rattle.hash_state.specs.Rules.{fresh, observed, sound, sample_of};
+ghost use Rattle.runs.specs.Runs.{OneMake};
 ghost use Rattle.hash_challenger.specs.Holds.{held as held_in, make as make_of};
+ghost use Rattle.hash_challenger.specs.Calls.{rule as rule_of};
 ghost use Rattle.hash_challenger.specs.Meaning.{hash_transcript};
+
+mod calls;
 
 use hash_state::{HashHeld, HashState, Prepared};
 use hasher::CryptographicHasher;
@@ -79,12 +83,13 @@ impl<H: CryptographicHasher<N>, const N: usize> HashChallenger<H, N> {
         self.state.outputs()
     }
 
-    /// Do both hold the same?
+    /// Do both hold the same? If so, and if the hashers give the same digests, each call means the same to both from here on.
     pub fn same_held<I: CryptographicHasher<M>, const M: usize>(
         &self,
         other: &HashChallenger<I, M>,
     ) -> bool
-        ensures { Decides result (held_in self.now ≡ held_in other.now) }
+        ensures value { Decides result (held_in self.now ≡ held_in other.now) }
+        ensures make { result ≡ true → H.digest ≡ I.digest → OneMake (rule_of H.digest) (rule_of I.digest) (held_in self.now) (held_in other.now) }
     {
         self.state.same_held(&other.state)
     }

@@ -3,7 +3,7 @@ use Rattle.std.proofs.Common.{◌≡◌, ℕ, List, [], ◌∷◌, ◌++◌, Som
 use Rattle.runs.specs.declared.call.Call.{Call}
 use Rattle.runs.specs.declared.call.Call.TheVariants.{CheckWitness, Grind}
 use Rattle.runs.specs.declared.call.Answer.{Answer}
-use Rattle.runs.specs.Runs.{Rule, Kind, grinding, other, kind, witness, Stands, ChecksStand, answers, ends, Run, for_grind, repeats, repeated, Repeats, ended, again, checked, skipped, OneMake, Agree}
+use Rattle.runs.specs.Runs.{Rule, Kind, grinding, other, kind, witness, Stands, ChecksStand, answers, ends, Run, for_grind, repeats, repeated, Repeats, ended, again, checked, skipped, SameRules, Agree}
 
 module _ {Held : Type 0} (rule : Rule Held) where
   -- the verifier, at h, makes the calls ds; the prover came to g
@@ -34,7 +34,7 @@ module _ {Held : Type 0} (rule : Rule Held) where
   follows stands h (c ∷ cs) = one stands h _ cs _ _ (follows stands (rule h c).left cs) (kind c) refl
 
 -- rules that mean the same run the same
-module _ {Held : Type 0} (rule other-rule : Rule Held) (same : (h : Held) (c : Call) → rule h c ≡ other-rule h c) where
+module _ {Held : Type 0} (rule other-rule : Rule Held) (same : SameRules rule other-rule) where
   answers-same : (h : Held) (cs : List Call) → answers other-rule h cs ≡ answers rule h cs
   answers-same h [] = refl
   answers-same h (c ∷ cs) =
@@ -44,19 +44,19 @@ module _ {Held : Type 0} (rule other-rule : Rule Held) (same : (h : Held) (c : C
   ends_same h [] = refl
   ends_same h (c ∷ cs) = sym (ap (λ r. ends other-rule r.left cs) (same h c)) ∙ ends_same (rule h c).left cs
 
--- two runs of one make, from fresh
-pub agreement : {Held : Type 0} (rule other-rule : Rule Held) (fresh other-fresh p₀ v₀ p₁ v₁ : Held) (cs : List Call) (xs ys : List Answer) → ChecksStand rule
-    → Run rule p₀ cs xs p₁ → Run other-rule v₀ (repeated cs xs) ys v₁ → OneMake rule other-rule fresh other-fresh → p₀ ≡ fresh → v₀ ≡ other-fresh
+-- two runs by rules that mean the same, from one value
+pub agreement : {Held : Type 0} (rule other-rule : Rule Held) (p₀ v₀ p₁ v₁ : Held) (cs : List Call) (xs ys : List Answer) → ChecksStand rule
+    → Run rule p₀ cs xs p₁ → Run other-rule v₀ (repeated cs xs) ys v₁ → SameRules rule other-rule → p₀ ≡ v₀
     → Agree cs xs (repeated cs xs) ys p₁ v₁
-agreement rule other-rule fresh other-fresh p₀ v₀ p₁ v₁ cs xs ys stands proves verifies make p v =
-    let start : v₀ ≡ p₀ = v ∙ sym make.fresh ∙ sym p in
+agreement rule other-rule p₀ v₀ p₁ v₁ cs xs ys stands proves verifies same e =
+    let start : v₀ ≡ p₀ = sym e in
     let f = follows rule stands p₀ cs in
     let ds = repeated cs xs in
     let lists : repeated cs (answers rule p₀ cs) ≡ ds = ap (repeated cs) (sym proves.said) in
     let r : Repeats cs xs ds (answers rule p₀ ds) =
     subst (λ zs. Repeats cs zs (repeated cs zs) (answers rule p₀ (repeated cs zs))) (sym proves.said) f.repeats in
-    let said : ys ≡ answers rule p₀ ds = verifies.said ∙ ap (λ x. answers other-rule x ds) start ∙ answers-same rule other-rule make.rules p₀ ds in
-    let left : v₁ ≡ ends rule p₀ ds = verifies.left ∙ ap (λ x. ends other-rule x ds) start ∙ ends_same rule other-rule make.rules p₀ ds in
+    let said : ys ≡ answers rule p₀ ds = verifies.said ∙ ap (λ x. answers other-rule x ds) start ∙ answers-same rule other-rule same p₀ ds in
+    let left : v₁ ≡ ends rule p₀ ds = verifies.left ∙ ap (λ x. ends other-rule x ds) start ∙ ends_same rule other-rule same p₀ ds in
     record {
       repeats = subst (Repeats cs xs ds) (sym said) r;
       same_held = left ∙ sym (ap (ends rule p₀) lists) ∙ f.same ∙ sym proves.left;

@@ -2,7 +2,7 @@
 use Rattle.std.specs.Prelude.{◌≡◌, ℕ, Bool, true, ◌&&◌, List, [], ◌∷◌, ◌++◌, length, Some, None, Option, ◌==◌}
 use Rattle.interface.specs.Meaning.{Reply, reply}
 use Rattle.runs.specs.declared.call.Call.{Call}
-use Rattle.runs.specs.declared.call.Call.TheVariants.{Observe, ObserveDigest, Sample, SampleBits, UniformBits, CheckWitness, Grind}
+use Rattle.runs.specs.declared.call.Call.TheVariants.{Observe, ObserveDigest, ObserveBytes, ObserveDigestBytes, ObserveDigestWords, Sample, SampleWithin, SampleBits, UniformBits, CheckWitness, Grind}
 use Rattle.runs.specs.declared.call.Answer.{Answer}
 use Rattle.runs.specs.declared.call.Answer.TheVariants.{Done, Code, Bits, Checked, Ground, Refused, Absent}
 
@@ -18,7 +18,11 @@ pub data Kind : Call → Type 0 where
 abbrev pub kind : (c : Call) → Kind c
 kind (Observe xs) = other (Observe xs)
 kind (ObserveDigest xs) = other (ObserveDigest xs)
+kind (ObserveBytes xs) = other (ObserveBytes xs)
+kind (ObserveDigestBytes xs) = other (ObserveDigestBytes xs)
+kind (ObserveDigestWords xs) = other (ObserveDigestWords xs)
 kind Sample = other Sample
+kind (SampleWithin l) = other (SampleWithin l)
 kind (SampleBits b) = other (SampleBits b)
 kind (UniformBits b l) = other (UniformBits b l)
 kind (CheckWitness b w) = other (CheckWitness b w)
@@ -82,9 +86,13 @@ pub data Repeats : List Call → List Answer → List Call → List Answer → T
   -- a refused grind is left out
   skipped : (b n : ℕ) (a : Answer) {cs ds : List Call} {xs ys : List Answer} → witness a ≡ None → Repeats cs xs ds ys → Repeats (Grind b n ∷ cs) (a ∷ xs) ds ys
 
+-- each call means the same by both rules
+abbrev pub SameRules : {Held : Type 0} → Rule Held → Rule Held → Type 0
+SameRules {Held} prover verifier = (h : Held) (c : Call) → prover h c ≡ verifier h c
+
 -- two challengers of one make: each call means the same to both, and fresh they hold the same
 pub record OneMake {Held : Type 0} (prover verifier : Rule Held) (prover-fresh verifier-fresh : Held) : Type 0 where
-  pub rules : (h : Held) (c : Call) → prover h c ≡ verifier h c
+  pub rules : SameRules prover verifier
   pub fresh : prover-fresh ≡ verifier-fresh
 
 -- agreement: the verifier repeated the prover's run, and both hold the same
@@ -92,11 +100,12 @@ pub record Agree {Held : Type 0} (calls : List Call) (proved : List Answer) (aga
   pub repeats : Repeats calls proved again said
   pub same_held : verifier ≡ prover
 
--- both runs of one list of calls, from p₀ and v₀ to p₁ and v₁; of one make and fresh, the two agree
+-- both runs of one list of calls, from p₀ and v₀ to p₁ and v₁; of one make and fresh, the two agree, and so they do from any value that both hold, as one made with initial bytes
 pub record Rehearsed {Held : Type 0} (prover verifier : Rule Held) (prover-fresh verifier-fresh p₀ v₀ p₁ v₁ : Held) (calls : List Call) (proved said : List Answer) : Type 0 where
   pub proves : Run prover p₀ calls proved p₁
   pub verifies : Run verifier v₀ (repeated calls proved) said v₁
   pub agrees : OneMake prover verifier prover-fresh verifier-fresh → p₀ ≡ prover-fresh → v₀ ≡ verifier-fresh → Agree calls proved (repeated calls proved) said p₁ v₁
+  pub agrees_from : SameRules prover verifier → p₀ ≡ v₀ → Agree calls proved (repeated calls proved) said p₁ v₁
 
 -- do the places for answers number as many as the calls?
 abbrev pub places : List Call → List Answer → List Answer → Bool

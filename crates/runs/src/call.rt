@@ -6,7 +6,13 @@ use refusal::Refusal;
 pub enum Call<'a> {
     Observe(&'a [u64]),
     ObserveDigest(&'a [u64]),
+    ObserveBytes(&'a [u8]),
+    ObserveDigestBytes(&'a [u8]),
+    /// A digest of 64-bit words, as bytes.
+    ObserveDigestWords(&'a [u64]),
     Sample,
+    /// The draw limit.
+    SampleWithin(u64),
     /// Bits.
     SampleBits(u64),
     /// Bits and the draw limit.

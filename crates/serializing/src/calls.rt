@@ -1,6 +1,6 @@
 // The calls as values.
 ghost use Rattle.std.specs.Prelude.{◌≡◌};
-ghost use Rattle.runs.specs.Runs.{OneMake};
+ghost use Rattle.runs.specs.Runs.{OneMake, SameRules};
 ghost use Rattle.serializing.specs.Calls.{rule as rule_of, stands as checks_stand};
 
 use crate::SerializingChallenger32;
@@ -21,10 +21,15 @@ impl<D: Domain<ORDER> + Copy, T: ByteGrindingChallenger + Copy, const ORDER: u64
             Call::Observe(codes) => self
                 .observe(codes)
                 .map_or_else(Answer::Refused, |()| Answer::Done),
-            Call::ObserveDigest(words) => self
+            Call::ObserveDigestBytes(bytes) => self
+                .observe_digest(bytes)
+                .map_or_else(Answer::Refused, |()| Answer::Done),
+            Call::ObserveDigestWords(words) => self
                 .observe_digest_words(words)
                 .map_or_else(Answer::Refused, |()| Answer::Done),
-            Call::Sample => Answer::Absent,
+            Call::SampleWithin(limit) => self
+                .sample(*limit)
+                .map_or_else(Answer::Refused, Answer::Code),
             Call::SampleBits(bits) => self
                 .sample_bits(*bits)
                 .map_or_else(Answer::Refused, Answer::Bits),
@@ -38,16 +43,18 @@ impl<D: Domain<ORDER> + Copy, T: ByteGrindingChallenger + Copy, const ORDER: u64
                 Answer::Refused,
                 |(witness, trials)| Answer::Ground(witness, trials),
             ),
+            Call::ObserveDigest(_) | Call::ObserveBytes(_) | Call::Sample => Answer::Absent,
         }
     }
 }
 
 impl<D: Domain<ORDER>, T: ByteTranscript, const ORDER: u64> SerializingChallenger32<D, T, ORDER> {
-    /// Over transcripts of one meaning, that hold the same when fresh, two challengers are of one make, also where they are of different types.
+    /// Over transcripts of one meaning each call means the same to two challengers, also where they are of different types; if their transcripts hold the same when fresh, they are of one make.
     pub fn one_make<E: Domain<ORDER>, U: ByteTranscript + Holding<Held = T::Held>>(
         &self,
         _other: &SerializingChallenger32<E, U, ORDER>,
     )
+        ensures rules { T.meaning (T.make self.now.inner) ≡ U.meaning (U.make _other.now.inner) → SameRules (rule_of ORDER (T.meaning (T.make self.now.inner))) (rule_of ORDER (U.meaning (U.make _other.now.inner))) }
         ensures make { T.meaning (T.make self.now.inner) ≡ U.meaning (U.make _other.now.inner) → T.fresh (T.make self.now.inner) ≡ U.fresh (U.make _other.now.inner) → OneMake (rule_of ORDER (T.meaning (T.make self.now.inner))) (rule_of ORDER (U.meaning (U.make _other.now.inner))) (T.fresh (T.make self.now.inner)) (U.fresh (U.make _other.now.inner)) }
     {}
 }

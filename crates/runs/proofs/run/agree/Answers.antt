@@ -1,3 +1,4 @@
+use Rattle.std.proofs.Common.{sym, ◌∙◌}
 use Rattle.runs.proofs.Agreement.{agreement}
 use Rattle.runs.proofs.run.agree.Goals as goal
 
@@ -5,4 +6,5 @@ pub returns-clause-rehearsed : goal.returns-clause-rehearsed
 returns-clause-rehearsed g c =
     let proves = c.prove_run.ensures.run in
     let verifies = c.verify_run.ensures.run in
-    record { proves = proves; verifies = verifies; agrees = agreement _ _ _ _ _ _ _ _ _ _ _ (g.P.Challenger.stands _) proves verifies }
+    let agree = agreement _ _ _ _ _ _ _ _ _ (g.P.Challenger.stands _) proves verifies in
+    record { proves = proves; verifies = verifies; agrees = λ make p v. agree make.rules (p ∙ make.fresh ∙ sym v); agrees_from = agree }

@@ -3,6 +3,7 @@
 
 ghost use Rattle.std.specs.Prelude.{◌≡◌};
 ghost use Rattle.keccak_spec.specs.Keccak.{round, «keccak_f»};
+ghost use Rattle.keccak_spec.specs.Complemented.{complement, between_rounds};
 
 use keccak_chi::chi;
 use keccak_rho_pi::rho_pi;
@@ -35,10 +36,22 @@ const ROUND_CONSTANTS: [u64; 24] = [
     0x8000000080008008,
 ];
 
-/// One round, whose last step mixes the constant into the first lane.
-#[tactic(auto, unfolding(keccak_spec::specs::Keccak::round))]
+/// Complements the six lanes that the rounds hold complemented, or takes that back.
+// Held complemented, they save χ two in three of its negations.
+fn complement_lanes(s: &mut [u64; 25])
+    ensures { s.new ≡ complement between_rounds s.old }
+{
+    s[1] = !s[1];
+    s[2] = !s[2];
+    s[8] = !s[8];
+    s[12] = !s[12];
+    s[17] = !s[17];
+    s[20] = !s[20];
+}
+
+/// One round over complemented lanes, whose last step mixes the constant into the first lane.
 fn one_round<const COPY: usize>(a: &[u64; 25], constant: u64) -> [u64; 25]
-    ensures { result ≡ round a.now constant }
+    ensures { complement between_rounds result ≡ round (complement between_rounds a.now) constant }
 {
     let mut r = chi::<COPY>(&rho_pi::<COPY>(&theta::<COPY>(a)));
     r[0] ^= constant;
@@ -46,14 +59,16 @@ fn one_round<const COPY: usize>(a: &[u64; 25], constant: u64) -> [u64; 25]
 }
 
 /// Keccak-f[1600]: 24 rounds, two to a turn.
-// Kept as two rounds to a turn: with one it took 1.03 to 1.05 times as long, and missed the 0.85 of OpenSSL's speed that is asked in each of six runs; with two it met it in three of them (docs/BENCHMARKS.md).
+// Kept as two rounds to a turn: before any lane stood complemented, with one it took 1.03 to 1.05 times as long, and missed the 0.85 of OpenSSL's speed that is asked in each of six runs; with two it met it in three of them (docs/BENCHMARKS.md).
 pub fn permute(a: [u64; 25]) -> [u64; 25]
     ensures { result ≡ «keccak_f» a }
 {
     let mut s = a;
+    complement_lanes(&mut s);
     for pair in ROUND_CONSTANTS.as_chunks::<2>().0 {
         s = one_round::<0>(&s, pair[0]);
         s = one_round::<1>(&s, pair[1]);
     }
+    complement_lanes(&mut s);
     s
 }

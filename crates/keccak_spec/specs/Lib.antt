@@ -1,1 +1,2 @@
+pub mod Complemented
 pub mod Keccak

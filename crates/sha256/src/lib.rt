@@ -138,16 +138,14 @@ fn round_of(v: Words, w: &[u32; 64], t: usize) -> Words
     one_round(v, round_constant(t), w[t])
 }
 
-/// The words of all rounds: those of the block, then each from those before it.
-fn all_words(block: &[u8; 64]) -> [u32; 64]
-    ensures { result ≡ schedule 48 (words block.now) }
+/// The words of rounds 16 to 63, each from those before it.
+fn make_words(w: &mut [u32; 64])
+    ensures { w.new ≡ schedule 48 (take 16 w.old) }
 {
-    let mut w = block_words(block);
     // Kept as an index: each word is made from those at four places before it.
     for t in 0..48 {
-        extend(&mut w, t);
+        extend(w, t);
     }
-    w
 }
 
 /// All rounds.
@@ -175,7 +173,8 @@ fn all_rounds(s: Words, w: &[u32; 64]) -> Words
 fn compress(s: Words, block: &[u8; 64]) -> Words
     ensures { result ≡ compressed s block.now }
 {
-    let w = all_words(block);
+    let mut w = block_words(block);
+    make_words(&mut w);
     let v = all_rounds(s, &w);
     Words {
         a: v.a.wrapping_add(s.a),

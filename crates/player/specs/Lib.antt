@@ -1,3 +1,4 @@
 pub mod Admitted
 pub mod Spoken
 pub mod Hashes
+pub mod Helpers

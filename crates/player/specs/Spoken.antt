@@ -3,9 +3,8 @@ use Rattle.std.specs.Prelude.{ℕ, List, ◌++◌, Some, Option, codes, decimal}
 use Rattle.std.specs.Option.{option_map}
 use Rattle.script.specs.Spoken.{fault_words}
 use Rattle.player.specs.declared.agreement.Stop.{Stop}
-use Rattle.player.specs.declared.agreement.Stop.TheVariants.{Unreadable, NoCall, Memory}
+use Rattle.player.specs.declared.agreement.Stop.TheVariants.{Unreadable, Memory}
 
 abbrev pub stop_words : Stop → Option (List ℕ)
 stop_words (Unreadable line fault) = option_map (λ words. codes "line " ++ (decimal line ++ (codes ": " ++ words))) (fault_words fault)
-stop_words (NoCall line) = Some (codes "line " ++ (decimal line ++ codes ": a duplex challenger has no such call"))
 stop_words Memory = Some (codes "there is not enough memory")

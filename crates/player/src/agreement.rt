@@ -1,17 +1,17 @@
 // The prover's and the verifier's run of a script, side by side.
 ghost use Rattle.std.specs.Prelude.{◌≡◌, ℕ, List, IfOk, IsTrue, All};
-ghost use Rattle.script.specs.Meaning.{meaning};
 ghost use Rattle.rehearsal.specs.Lines.{numbered_lines};
 ghost use Rattle.rehearsal.specs.declared.lines.Numbered.{Numbered};
 ghost use Rattle.player.specs.declared.agreement.Stop.TheVariants.{Memory};
-ghost use Rattle.player.specs.Admitted.{admitted, rehearsable};
+ghost use Rattle.player.specs.Admitted.{readable};
 ghost use Rattle.player.specs.Spoken.{stop_words};
 
 use crate::making::{Playing, play_parts};
+use played::Played;
 use refusal::Refusal;
-use rehearsal::lines::{Numbered, Part, call_of, split_lines};
-use rehearsal::{Played, Table};
-use script::{Fault, Line, read_line};
+use rehearsal::Table;
+use rehearsal::lines::{Numbered, Part, split_lines};
+use script::{Fault, read_line};
 use std::alloc::{AllocError, Global};
 use std::fmt;
 
@@ -20,8 +20,6 @@ use std::fmt;
 pub enum Stop<'a> {
     /// A line that cannot be read.
     Unreadable(usize, Fault<'a>),
-    /// A line with a call that a verifier does not repeat.
-    NoCall(usize),
     Memory,
 }
 
@@ -39,33 +37,18 @@ impl fmt::Display for Stop<'_> {
     fn fmt<W: fmt::Write>(&self, f: &mut fmt::Formatter<W>) -> fmt::Result {
         match self {
             Stop::Unreadable(line, fault) => write!(f, "line {line}: {fault}"),
-            Stop::NoCall(line) => write!(f, "line {line}: a duplex challenger has no such call"),
             Stop::Memory => write!(f, "there is not enough memory"),
         }
     }
 }
 
-/// Whether a line can stand in a script that is rehearsed.
-fn fits(line: &Line) -> bool
-    ensures { result ≡ admitted (meaning line.now) }
-{
-    match line {
-        Line::Blank | Line::Held | Line::Finalize | Line::MakeDuplex(_) | Line::HashOf(_, _) =>
-            true,
-        _ => call_of(line).is_some(),
-    }
-}
-
-/// Refuses the script at the first line that does not fit.
+/// Refuses the script at the first line that cannot be read.
 fn admit<'a>(heap: Global, lines: &[Numbered<'a>]) -> Result<(), Stop<'a>>
-    ensures { IfOk result (λ _. All (λ (l : Numbered). IsTrue (rehearsable l.text.now)) lines.now) }
+    ensures { IfOk result (λ _. All (λ (l : Numbered). IsTrue (readable l.text.now)) lines.now) }
 {
     for line in lines {
         let number = line.number;
-        let read = read_line(heap, line.text).map_err(|fault| Stop::Unreadable(number, fault))?;
-        if !fits(&read) {
-            return Err(Stop::NoCall(number));
-        }
+        read_line(heap, line.text).map_err(|fault| Stop::Unreadable(number, fault))?;
     }
     Ok(())
 }
@@ -86,7 +69,7 @@ impl Playing for Table {
 
 /// The prover's and the verifier's run of a script, as tables.
 pub fn agree<'a>(heap: Global, text: &'a str) -> Result<String, Stop<'a>>
-    ensures { IfOk result (λ _. All (λ (p : ℕ × List ℕ). IsTrue (rehearsable p.1)) (numbered_lines text.entry.now)) }
+    ensures { IfOk result (λ _. All (λ (p : ℕ × List ℕ). IsTrue (readable p.1)) (numbered_lines text.entry.now)) }
 {
     let lines = split_lines(heap, text)?;
     admit(heap, lines.as_slice())?;

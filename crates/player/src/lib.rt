@@ -2,6 +2,7 @@
 #![tactic(auto)]
 
 mod agreement;
+mod helpers;
 mod making;
 mod playing;
 
@@ -15,7 +16,7 @@ mod tests {
 
     #[test]
     fn a_bad_line_is_answered_in_its_place(rt: HostRuntime) -> Result<(), Fail> {
-        let text = "make duplex bytes mirror 2 1\ntoss\n\nsample\nmake hash sha256 -\nsample";
+        let text = "make duplex bytes mirror 2 1\ntoss\n\nsample\nmake tape\nsample";
         let sheet = run(rt.alloc(), text)?;
         assert_eq!(rt;
             sheet.answers.as_str(),
@@ -23,7 +24,7 @@ mod tests {
         );
         assert_eq!(rt;
             sheet.messages.as_str(),
-            "line 2: there is no call \"toss\"\nline 5: this build has no hash challenger\n"
+            "line 2: there is no call \"toss\"\nline 5: there is no challenger \"tape\"\n"
         );
         Ok(())
     }
@@ -36,8 +37,8 @@ mod tests {
                 "line 2: this is no decimal number below 2^64: \"x\"",
             ),
             (
-                "# no challenger\nsample 3",
-                "line 2: a duplex challenger has no such call",
+                "# no challenger\nsample  3",
+                "line 2: words are separated by one space",
             ),
         ];
         for (text, want) in table {

@@ -2,12 +2,12 @@
 ghost use Rattle.std.specs.Prelude.{◌≡◌, ◌↔◌, IfOk, IsTrue, string_len};
 ghost use Rattle.player.specs.Hashes.{named_digest};
 
+use crate::helpers::pair_numbers;
 use crate::making::{Playing, play_parts};
-use printing::Listed;
+use played::{Played, Request, Unfit};
 use refusal::Refusal;
-use rehearsal::Played;
-use rehearsal::lines::{Numbered, Part, before_finalize, call_of, split_lines};
-use script::{Fault, HasherName, Line, read_line};
+use rehearsal::lines::{Numbered, Part, before_finalize, split_lines};
+use script::{DomainName, Fault, HashParameters, HasherName, Line, read_line};
 use std::alloc::{AllocError, Global};
 use std::io;
 
@@ -55,21 +55,78 @@ impl Sheet {
     }
 
     /// Answers a line that asks for a digest.
-    fn hash(&mut self, hasher: HasherName, bytes: &[u8]) -> Result<(), AllocError> {
-        let digest = hex::encode(self.heap(), digest_of(hasher, bytes))?;
-        writeln!(self.answers, "ok {digest}")
+    fn hash(&mut self, asked: &HashParameters) -> Result<(), AllocError> {
+        let digest = digest_of(asked.hasher, asked.bytes.as_slice());
+        let text = hex::encode(self.heap(), digest)?;
+        writeln!(self.answers, "ok {text}")
+    }
+
+    /// Answers a line that asks for the numbers of a pair of domains.
+    fn helpers(&mut self, sampled: DomainName, domain: DomainName) -> Result<(), AllocError> {
+        match pair_numbers(sampled, domain) {
+            Ok((bits, limbs, digits)) => writeln!(self.answers, "ok {bits} {limbs} {digits}"),
+            Err(refusal) => writeln!(self.answers, "{refusal}"),
+        }
+    }
+
+    /// Answers a line that asks for a search.
+    fn find<C: Played>(
+        &mut self,
+        challenger: &C,
+        candidates: u64,
+        mask: u64,
+    ) -> Result<(), AllocError> {
+        match challenger.find(candidates, mask) {
+            Some(Some(candidate)) => writeln!(self.answers, "ok {candidate}"),
+            Some(None) => writeln!(self.answers, "ok none"),
+            None => writeln!(self.answers, "no-call"),
+        }
+    }
+
+    /// Answers a line that does not fit the challenger. A limit in the wrong place is a fault of the line.
+    fn unfit(&mut self, at: &Numbered<'_>, unfit: Unfit) -> Result<(), AllocError> {
+        writeln!(self.answers, "{unfit}")?;
+        let number = at.number;
+        match unfit {
+            Unfit::NotBytes => Ok(()),
+            Unfit::Limit => writeln!(
+                self.messages,
+                "line {number}: only a serializing challenger's sample takes a draw limit, and it must"
+            ),
+        }
+    }
+
+    /// Answers a line that asks for a call.
+    fn call<C: Played>(
+        &mut self,
+        challenger: &mut C,
+        at: &Numbered<'_>,
+        line: Line,
+    ) -> Result<(), AllocError> {
+        let request = Request::new(self.heap(), line)?;
+        match request.call(challenger.dialect()) {
+            Ok(Some(call)) => writeln!(self.answers, "{}", challenger.call(&call)),
+            Ok(None) => Ok(()),
+            Err(unfit) => self.unfit(at, unfit),
+        }
     }
 
     /// Answers what a line says, which is no finalize.
-    fn answer<C: Played>(&mut self, challenger: &mut C, line: &Line) -> Result<(), AllocError> {
+    fn answer<C: Played>(
+        &mut self,
+        challenger: &mut C,
+        at: &Numbered<'_>,
+        line: Line,
+    ) -> Result<(), AllocError> {
         match line {
-            Line::Blank => Ok(()),
-            Line::Held => writeln!(self.answers, "held {}", challenger.held()),
-            Line::HashOf(hasher, bytes) => self.hash(*hasher, bytes.as_slice()),
-            _ => match call_of(line) {
-                Some(call) => writeln!(self.answers, "{}", challenger.call(&call)),
-                None => writeln!(self.answers, "no-call"),
-            },
+            Line::Held => {
+                let held = challenger.held(self.heap())?;
+                writeln!(self.answers, "held {held}")
+            }
+            Line::Find(candidates, mask) => self.find(challenger, candidates, mask),
+            Line::HashOf(asked) => self.hash(&asked),
+            Line::Helpers(sampled, domain) => self.helpers(sampled, domain),
+            other => self.call(challenger, at, other),
         }
     }
 
@@ -81,7 +138,7 @@ impl Sheet {
     ) -> Result<(), AllocError> {
         for line in lines {
             match read_line(self.heap(), line.text) {
-                Ok(read) => self.answer(challenger, &read)?,
+                Ok(read) => self.answer(challenger, line, read)?,
                 Err(fault) => self.bad_line(line, fault)?,
             }
         }
@@ -91,18 +148,15 @@ impl Sheet {
     /// Answers a finalize.
     fn finalize<C: Played>(&mut self, challenger: &C) -> Result<(), AllocError> {
         let digest = challenger.digest(self.heap())?;
-        writeln!(
-            self.answers,
-            "ok {}",
-            Listed::with_spaces(digest.as_slice())
-        )
+        writeln!(self.answers, "ok {digest}")
     }
 
     /// Answers a line where there is no challenger.
     fn idle_line(&mut self, line: &Numbered<'_>) -> Result<(), AllocError> {
         match read_line(self.heap(), line.text) {
             Ok(Line::Blank) => Ok(()),
-            Ok(Line::HashOf(hasher, bytes)) => self.hash(hasher, bytes.as_slice()),
+            Ok(Line::HashOf(asked)) => self.hash(&asked),
+            Ok(Line::Helpers(sampled, domain)) => self.helpers(sampled, domain),
             Ok(_) => writeln!(self.answers, "no-challenger"),
             Err(fault) => self.bad_line(line, fault),
         }

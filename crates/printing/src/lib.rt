@@ -1,9 +1,10 @@
 //! What a challenger gives, in words.
 #![tactic(auto)]
 
-ghost use Rattle.std.specs.Prelude.{◌≡◌, Some, encode_utf8};
-ghost use Rattle.printing.specs.Spoken.{listed, held_words};
+ghost use Rattle.std.specs.Prelude.{◌≡◌, Some, IfOk, encode_utf8, string_bytes};
+ghost use Rattle.printing.specs.Spoken.{listed, held_words, hex_words};
 
+use std::alloc::{AllocError, Global};
 use std::fmt;
 
 pub mod table;
@@ -39,15 +40,16 @@ impl<'a> Listed<'a> {
         Listed { codes, mark: ' ' }
     }
 
-    fn with_commas(codes: &'a [u64]) -> Self
+    /// Codes with a comma between two.
+    pub fn with_commas(codes: &'a [u64]) -> Self
         ensures { (result.codes.now ≡ codes.entry.now) × (result.mark ≡ 44) }
     {
         Listed { codes, mark: ',' }
     }
 }
 
-/// What a challenger holds.
-#[derive(Clone, Copy, PartialEq, Eq)]
+/// What a challenger over a sponge holds.
+#[derive(Clone, Copy)]
 pub struct Held<'a> {
     pub row: &'a [u64],
     pub pending: &'a [u64],
@@ -63,4 +65,14 @@ impl fmt::Display for Held<'_> {
         let outputs = Listed::with_commas(self.outputs);
         write!(f, "row={row} pending={pending} outputs={outputs}")
     }
+}
+
+/// Bytes as hex digits, or `-` if there is none.
+pub fn hex_text(heap: Global, bytes: &[u8]) -> Result<String, AllocError>
+    ensures { IfOk result (λ text. string_bytes text ≡ hex_words bytes.now) }
+{
+    if bytes.is_empty() {
+        return String::from_str(heap, "-");
+    }
+    hex::encode(heap, bytes)
 }

@@ -1,12 +1,7 @@
-// The lines of a script, and the calls that lines ask for.
+// The lines of a script.
 ghost use Rattle.std.specs.Prelude.{◌≡◌, take, drop, map, IfOk};
-ghost use Rattle.std.specs.Option.{option_map};
-ghost use Rattle.script.specs.Meaning.{meaning};
-ghost use Rattle.rehearsal.specs.Calls.{said_for, called};
 ghost use Rattle.rehearsal.specs.Lines.{line_of, numbered_lines, finalize_place};
 
-use runs::Call;
-use script::Line;
 use std::alloc::{AllocError, Global};
 
 /// A line of a script, without its line end.
@@ -46,20 +41,4 @@ pub fn before_finalize<'a>(lines: &'a [Numbered<'a>]) -> (&'a [Numbered<'a>], &'
         .position(|line| line.text == "finalize")
         .unwrap_or(lines.len());
     lines.split_at(place)
-}
-
-/// The call of a duplex challenger that a line asks for, if any.
-pub fn call_of(line: &Line) -> Option<Call<'_>>
-    ensures { option_map said_for result ≡ called (meaning line.now) }
-{
-    match line {
-        Line::Observe(codes) => Some(Call::Observe(codes.as_slice())),
-        Line::Digest(codes) => Some(Call::ObserveDigest(codes.as_slice())),
-        Line::Sample(None) => Some(Call::Sample),
-        Line::Bits(bits) => Some(Call::SampleBits(*bits)),
-        Line::Uniform(bits, limit) => Some(Call::UniformBits(*bits, *limit)),
-        Line::Check(bits, witness) => Some(Call::CheckWitness(*bits, *witness)),
-        Line::Grind(bits, budget) => Some(Call::Grind(*bits, *budget)),
-        _ => None,
-    }
 }

@@ -3,14 +3,14 @@ ghost use Rattle.std.specs.Prelude.{IfOk, string_bytes};
 ghost use Rattle.rehearsal.specs.Tables.{Grows};
 
 use crate::lines::{Numbered, Part, before_finalize};
-use crate::played::Played;
-use crate::turns::{Ends, Turn, steps};
-use printing::Listed;
+use crate::turns::{Ends, Step, Turn, steps};
+use played::{Dialect, Played};
 use printing::table::{HEAD, Row};
 use refusal::Refusal;
 use runs::Call;
 use script::{Line, read_line};
 use std::alloc::{AllocError, Global};
+use std::slice::Iter;
 
 /// A table as it is written. What stood in it stays at its front.
 #[derive(Drop)]
@@ -60,7 +60,7 @@ impl Table {
     }
 
     /// Writes the row of a turn.
-    fn turn(&mut self, turn: &Turn<'_>) -> Result<(), AllocError>
+    fn turn(&mut self, at: &Numbered<'_>, turn: &Turn<'_>) -> Result<(), AllocError>
         ensures { IfOk result (λ _. Grows (string_bytes self.old.text) (string_bytes self.new.text)) }
     {
         let heap = self.heap();
@@ -71,8 +71,8 @@ impl Table {
             None => String::from_str(heap, "-")?,
         };
         let row = Row {
-            line: turn.at.number,
-            call: turn.at.text,
+            line: at.number,
+            call: at.text,
             prover: prover.as_str(),
             instead: instead.as_str(),
             verifier: verifier.as_str(),
@@ -80,12 +80,33 @@ impl Table {
         writeln!(self.text, "{row}")
     }
 
+    /// Writes the row of a step: its turn, or why it does not fit the challenger.
+    fn step(
+        &mut self,
+        dialect: Dialect,
+        step: &Step<'_>,
+        turns: &mut Iter<'_, Turn<'_>>,
+    ) -> Result<(), AllocError>
+        ensures { IfOk result (λ _. Grows (string_bytes self.old.text) (string_bytes self.new.text)) }
+    {
+        if let Err(unfit) = step.request.call(dialect) {
+            let answer = unfit.to_string(self.heap())?;
+            return self.same(&step.at, answer.as_str(), answer.as_str());
+        }
+        match turns.next() {
+            Some(turn) => self.turn(&step.at, turn),
+            None => Ok(()),
+        }
+    }
+
     /// Writes the row of a call where there is no challenger.
     fn absent_line(&mut self, line: &Numbered<'_>) -> Result<(), AllocError>
         ensures { IfOk result (λ _. Grows (string_bytes self.old.text) (string_bytes self.new.text)) }
     {
         match read_line(self.heap(), line.text) {
-            Ok(Line::Blank | Line::Held | Line::HashOf(_, _)) => Ok(()),
+            Ok(
+                Line::Blank | Line::Held | Line::Find(_, _) | Line::HashOf(_) | Line::Helpers(_, _),
+            ) => Ok(()),
             _ => self.same(line, "no-challenger", "no-challenger"),
         }
     }
@@ -107,19 +128,20 @@ impl Table {
         let heap = self.heap();
         let proved = ends.prover.digest(heap)?;
         let said = ends.verifier.digest(heap)?;
-        let prover = format!(in heap; "ok {}", Listed::with_spaces(proved.as_slice()))?;
-        let verifier = format!(in heap; "ok {}", Listed::with_spaces(said.as_slice()))?;
+        let prover = format!(in heap; "ok {proved}")?;
+        let verifier = format!(in heap; "ok {said}")?;
         self.same(at, prover.as_str(), verifier.as_str())?;
-        Ok(proved.as_slice() == said.as_slice())
+        Ok(proved.as_str() == said.as_str())
     }
 
     /// Writes what both hold, or held before a finalize; tells whether it is the same.
     fn held<C: Played>(&mut self, when: &str, ends: &Ends<C>) -> Result<bool, AllocError>
         ensures { IfOk result (λ _. Grows (string_bytes self.old.text) (string_bytes self.new.text)) }
     {
-        let prover = ends.prover.held();
-        let verifier = ends.verifier.held();
-        if prover == verifier {
+        let heap = self.heap();
+        let prover = ends.prover.held(heap)?;
+        let verifier = ends.verifier.held(heap)?;
+        if prover.as_str() == verifier.as_str() {
             writeln!(self.text, "{when}both hold {prover}")?;
             return Ok(true);
         }
@@ -154,14 +176,16 @@ impl Table {
     {
         self.begin(&part.make, "ok")?;
         let (before, after) = before_finalize(part.lines);
-        let steps = steps(self.heap(), before)?;
+        let dialect = fresh.dialect();
+        let steps = steps(self.heap(), dialect, before)?;
         let mut ends = Ends {
             prover: fresh,
             verifier: fresh,
         };
         let (turns, calls_alike) = ends.run(self.heap(), steps.as_slice())?;
-        for turn in turns.iter() {
-            self.turn(turn)?;
+        let mut turns = turns.iter();
+        for step in steps.iter() {
+            self.step(dialect, step, &mut turns)?;
         }
         let end_alike = self.finish(after, &ends)?;
         let told = if calls_alike && end_alike {
@@ -186,12 +210,13 @@ impl Table {
     pub fn unmade(&mut self, lines: &[Numbered<'_>]) -> Result<(), AllocError>
         ensures { IfOk result (λ _. Grows (string_bytes self.old.text) (string_bytes self.new.text)) }
     {
-        let (before, after) = before_finalize(lines);
-        if steps(self.heap(), before)?.is_empty() && after.is_empty() {
+        let mut rows = Table {
+            text: String::new(self.heap()),
+        };
+        rows.absent(lines)?;
+        if rows.text.is_empty() {
             return Ok(());
         }
-        writeln!(self.text, "{HEAD}")?;
-        self.absent(lines)?;
-        writeln!(self.text, "agree")
+        writeln!(self.text, "{HEAD}\n{}agree", rows.text)
     }
 }

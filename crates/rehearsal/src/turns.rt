@@ -1,27 +1,33 @@
 // The prover's and the verifier's run of the calls of a script.
-use crate::lines::{Numbered, call_of};
-use crate::played::Played;
+use crate::lines::Numbered;
+use played::{Dialect, Played, Request};
 use runs::{Answer, Call, instead};
-use script::{Line, read_line};
+use script::read_line;
 use std::alloc::{AllocError, Global};
 use std::slice::Iter;
 
-/// A line with a call, read.
+/// A line that asks for a call, read.
 #[derive(Drop)]
 pub struct Step<'a> {
     pub at: Numbered<'a>,
-    pub line: Line,
+    pub request: Request,
 }
 
-/// The lines with a call.
-pub fn steps<'a>(heap: Global, lines: &[Numbered<'a>]) -> Result<Vec<Step<'a>>, AllocError> {
+/// The lines that ask for a call, whether or not it fits the challenger.
+pub fn steps<'a>(
+    heap: Global,
+    dialect: Dialect,
+    lines: &[Numbered<'a>],
+) -> Result<Vec<Step<'a>>, AllocError> {
     let mut all = Vec::new(heap);
     // Kept as a `for`: reading a line allocates, and a closure under `filter_map` can't pass that failure on.
     for at in lines {
         // A rehearsed script has only lines that can be read.
         let line = read_line(heap, at.text).map_err(|_| AllocError)?;
-        if call_of(&line).is_some() {
-            all.push(Step { at: *at, line })?;
+        let request = Request::new(heap, line)?;
+        match request.call(dialect) {
+            Ok(None) => {}
+            _ => all.push(Step { at: *at, request })?,
         }
     }
     Ok(all)
@@ -30,7 +36,6 @@ pub fn steps<'a>(heap: Global, lines: &[Numbered<'a>]) -> Result<Vec<Step<'a>>, 
 /// One of the prover's calls and its answer, and what the verifier called in its place, if anything, and its answer.
 #[derive(Clone, Copy)]
 pub struct Turn<'a> {
-    pub at: Numbered<'a>,
     pub call: Call<'a>,
     pub proved: Answer,
     pub again: Option<(Call<'a>, Answer)>,
@@ -61,17 +66,15 @@ fn again<'a>(
 /// The turns of a run.
 fn turns<'a>(
     heap: Global,
-    steps: &[Step<'a>],
     calls: &[Call<'a>],
     proved: &[Answer],
     said: &[Answer],
 ) -> Result<Vec<Turn<'a>>, AllocError> {
     let mut said = said.iter();
-    steps
+    calls
         .iter()
-        .zip(calls.iter().zip(proved.iter()))
-        .map(|(step, (call, proved))| Turn {
-            at: step.at,
+        .zip(proved.iter())
+        .map(|(call, proved)| Turn {
             call: *call,
             proved: *proved,
             again: again(call, proved, &mut said),
@@ -92,11 +95,12 @@ impl<C: Played> Ends<C> {
     pub fn run<'a>(
         &mut self,
         heap: Global,
-        steps: &'a [Step<'a>],
+        steps: &'a [Step<'_>],
     ) -> Result<(Vec<Turn<'a>>, bool), AllocError> {
+        let dialect = self.prover.dialect();
         let calls: Vec<Call<'a>> = steps
             .iter()
-            .filter_map(|step| call_of(&step.line))
+            .filter_map(|step| step.request.call(dialect).unwrap_or(None))
             .collect(heap)?;
         let mut proved = vec![in heap; Answer::Absent; calls.len()]?;
         let mut said = vec![in heap; Answer::Absent; calls.len()]?;
@@ -107,13 +111,7 @@ impl<C: Played> Ends<C> {
             proved.as_mut_slice(),
             said.as_mut_slice(),
         );
-        let turns = turns(
-            heap,
-            steps,
-            calls.as_slice(),
-            proved.as_slice(),
-            said.as_slice(),
-        )?;
+        let turns = turns(heap, calls.as_slice(), proved.as_slice(), said.as_slice())?;
         let shown = turns.iter().filter(|turn| turn.again.is_some()).count();
         let alike = told == Some(shown) && turns.iter().all(|turn| turn.agrees());
         Ok((turns, alike))

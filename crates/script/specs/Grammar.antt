@@ -7,11 +7,16 @@ use Rattle.script.specs.declared.PermutationName.{PermutationName}
 use Rattle.script.specs.declared.PermutationName.TheVariants.{Mirror, Ladder}
 use Rattle.script.specs.declared.HasherName.{HasherName}
 use Rattle.script.specs.declared.HasherName.TheVariants.{Sha256, Sha3_256}
+use Rattle.script.specs.declared.SpongeParameters.{SpongeParameters}
 use Rattle.script.specs.Words.{first_word, after_word, number_of, bytes_of, then, one_of, two_of, optional_of, numbers_of, entry}
 
 pub data Said : Type 0 where
   to_blank : Said
-  to_make_duplex : DomainName → PermutationName → ℕ × ℕ → Said
+  to_make_duplex : DomainName → SpongeParameters → Said
+  to_make_multi : DomainName → DomainName → SpongeParameters → Said
+  to_make_hash : HasherName × List ℕ → Said
+  to_make_serial_duplex : DomainName → SpongeParameters → Said
+  to_make_serial_hash : DomainName → HasherName × List ℕ → Said
   to_observe : List ℕ → Said
   to_digest : List ℕ → Said
   to_digest64 : List ℕ → Said
@@ -23,7 +28,8 @@ pub data Said : Type 0 where
   to_find : ℕ × ℕ → Said
   to_held : Said
   to_finalize : Said
-  to_hash_of : HasherName → List ℕ → Said
+  to_hash_of : HasherName × List ℕ → Said
+  to_helpers : DomainName → DomainName → Said
 
 abbrev pub domain_of : List ℕ → Option DomainName
 domain_of w = entry w (
@@ -43,21 +49,61 @@ permutation_of w = cond (bytes_eq w (codes "mirror")) (Some Mirror) (then (after
 abbrev pub hasher_of : List ℕ → Option HasherName
 hasher_of w = entry w ((codes "sha256", Some Sha256) ∷ (codes "sha3-256", Some Sha3_256) ∷ [])
 
+-- a domain, and what follows it; two of them
+abbrev pub domain_first : Option (List ℕ) → Option (DomainName × Option (List ℕ))
+domain_first rest = then rest (λ t. then (domain_of (first_word t)) (λ d. Some (d, after_word t)))
+
+abbrev pub domains_first : Option (List ℕ) → Option (DomainName × DomainName × Option (List ℕ))
+domains_first rest = then (domain_first rest) (λ p. then (domain_first p.1) (λ q. Some (p.0, q.0, q.1)))
+
+-- PERM WIDTH RATE
+abbrev pub sponge_of : Option (List ℕ) → Option SpongeParameters
+sponge_of rest =
+    then rest (λ t. then (permutation_of (first_word t)) (λ p. then (two_of (after_word t)) (λ sizes. Some (record { permutation = p; width = sizes.0; rate = sizes.1 }))))
+
 -- HASHER HEX
+abbrev pub hashed_of : Option (List ℕ) → Option (HasherName × List ℕ)
+hashed_of rest = then rest (λ t. then (hasher_of (first_word t)) (λ h. then (after_word t) (λ u. then (bytes_of u) (λ bs. Some (h, bs)))))
+
 abbrev pub hash_of : Option (List ℕ) → Option Said
-hash_of rest = then rest (λ t. then (hasher_of (first_word t)) (λ h. then (after_word t) (λ u. then (bytes_of u) (λ bs. Some (to_hash_of h bs)))))
+hash_of rest = then (hashed_of rest) (λ k. Some (to_hash_of k))
 
 -- DOMAIN PERM WIDTH RATE
 abbrev pub duplex_of : Option (List ℕ) → Option Said
-duplex_of rest =
-    then rest (λ t. then (domain_of (first_word t)) (λ d. then (after_word t) (λ u. then (permutation_of (first_word u)) (λ p. then (two_of (after_word u)) (λ sizes. Some (to_make_duplex d p sizes))))))
+duplex_of rest = then (domain_first rest) (λ p. then (sponge_of p.1) (λ k. Some (to_make_duplex p.0 k)))
+
+-- SAMPLED SPONGE PERM WIDTH RATE
+abbrev pub multi_of : Option (List ℕ) → Option Said
+multi_of rest = then (domains_first rest) (λ p. then (sponge_of p.2) (λ k. Some (to_make_multi p.0 p.1 k)))
+
+-- duplex PERM WIDTH RATE, or hash HASHER HEX
+abbrev pub below : DomainName → Option (List ℕ) → Option Said
+below sampled rest =
+    then rest (λ t. entry (first_word t) (
+    (codes "duplex", then (sponge_of (after_word t)) (λ k. Some (to_make_serial_duplex sampled k)))
+    ∷ (codes "hash", then (hashed_of (after_word t)) (λ k. Some (to_make_serial_hash sampled k)))
+    ∷ []))
+
+-- SAMPLED, and a byte transcript
+abbrev pub serial_of : Option (List ℕ) → Option Said
+serial_of rest = then (domain_first rest) (λ p. below p.0 p.1)
 
 abbrev pub make_of : Option (List ℕ) → Option Said
-make_of rest = then rest (λ t. entry (first_word t) ((codes "duplex", duplex_of (after_word t)) ∷ []))
+make_of rest =
+    then rest (λ t. entry (first_word t) (
+    (codes "duplex", duplex_of (after_word t))
+    ∷ (codes "multi", multi_of (after_word t))
+    ∷ (codes "hash", then (hashed_of (after_word t)) (λ k. Some (to_make_hash k)))
+    ∷ (codes "serial", serial_of (after_word t))
+    ∷ []))
 
 abbrev pub nothing_of : Option (List ℕ) → Said → Option Said
 nothing_of None s = Some s
 nothing_of (Some t) s = None
+
+-- SAMPLED SPONGE
+abbrev pub helpers_of : Option (List ℕ) → Option Said
+helpers_of rest = then (domains_first rest) (λ p. nothing_of p.2 (to_helpers p.0 p.1))
 
 abbrev pub pairs : Option (List ℕ) → List (List ℕ × Option Said)
 pairs rest =
@@ -79,7 +125,11 @@ calls rest =
     ∷ pairs rest
 
 abbrev pub line_of : List ℕ → List (List ℕ × Option Said)
-line_of t = (codes "make", make_of (after_word t)) ∷ (codes "hashof", hash_of (after_word t)) ∷ calls (after_word t)
+line_of t =
+    (codes "make", make_of (after_word t))
+    ∷ (codes "hashof", hash_of (after_word t))
+    ∷ (codes "helpers", helpers_of (after_word t))
+    ∷ calls (after_word t)
 
 -- an empty line, or one that starts with #
 abbrev pub skipped : List ℕ → Bool

@@ -2,16 +2,8 @@
 use Rattle.std.specs.Prelude.{ℕ, List, ◌++◌, Some, Option, codes}
 use Rattle.std.specs.Option.{option_map}
 use Rattle.std.specs.Fmt.{debug_str}
-use Rattle.script.specs.declared.Part.{Part}
-use Rattle.script.specs.declared.Part.TheVariants.{MultiField, Hash, Serializing, Helpers}
 use Rattle.script.specs.declared.Fault.{Fault}
-use Rattle.script.specs.declared.Fault.TheVariants.{Spacing, UnknownCall, UnknownChallenger, UnknownDomain, UnknownPermutation, UnknownHasher, NotNumber, NotHex, TooFew, TooMany, NotInBuild, Memory}
-
-abbrev pub part_words : Part → List ℕ
-part_words MultiField = codes "multi-field challenger"
-part_words Hash = codes "hash challenger"
-part_words Serializing = codes "serializing challenger"
-part_words Helpers = codes "call helpers"
+use Rattle.script.specs.declared.Fault.TheVariants.{Spacing, UnknownCall, UnknownChallenger, UnknownTranscript, UnknownDomain, UnknownPermutation, UnknownHasher, NotNumber, NotHex, TooFew, TooMany, Memory}
 
 -- a sentence that ends with the word in quotes; of a word that is not ASCII it says nothing
 abbrev pub quoting : List ℕ → List ℕ → Option (List ℕ)
@@ -21,6 +13,7 @@ abbrev pub fault_words : Fault → Option (List ℕ)
 fault_words Spacing = Some (codes "words are separated by one space")
 fault_words (UnknownCall word) = quoting (codes "there is no call ") word.now
 fault_words (UnknownChallenger word) = quoting (codes "there is no challenger ") word.now
+fault_words (UnknownTranscript word) = quoting (codes "there is no byte transcript ") word.now
 fault_words (UnknownDomain word) = quoting (codes "there is no domain ") word.now
 fault_words (UnknownPermutation word) = quoting (codes "there is no permutation ") word.now
 fault_words (UnknownHasher word) = quoting (codes "there is no hash function ") word.now
@@ -28,5 +21,4 @@ fault_words (NotNumber word) = quoting (codes "this is no decimal number below 2
 fault_words (NotHex word) = quoting (codes "these are no pairs of hex digits: ") word.now
 fault_words TooFew = Some (codes "a word is missing")
 fault_words TooMany = Some (codes "there are more words than the call takes")
-fault_words (NotInBuild part) = Some (codes "this build has no " ++ part_words part)
 fault_words Memory = Some (codes "there is not enough memory")

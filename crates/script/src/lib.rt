@@ -7,9 +7,9 @@ ghost use Rattle.std.specs.Result.{result_ok};
 ghost use Rattle.std.specs.Iterator.{YieldsFirstRef, item_count};
 ghost use Rattle.script.specs.declared.Fault.TheVariants.{Memory};
 ghost use Rattle.script.specs.Words.{first_word, after_word, words_of, number_of, one_of, two_of, optional_of, numbers_of, bytes_of, entry};
-ghost use Rattle.script.specs.Grammar.{domain_of, permutation_of, hasher_of, hash_of, duplex_of, make_of, nothing_of, pairs, calls, line_of, said_by};
-ghost use Rattle.script.specs.Meaning.{meaning, left, Gives};
-ghost use Rattle.script.specs.Spoken.{part_words, fault_words};
+ghost use Rattle.script.specs.Grammar.{domain_of, permutation_of, hasher_of, domain_first, domains_first, sponge_of, hashed_of, duplex_of, multi_of, below, serial_of, make_of, helpers_of, hash_of, nothing_of, pairs, calls, line_of, said_by};
+ghost use Rattle.script.specs.Meaning.{meaning, hash_parameters, left, Gives};
+ghost use Rattle.script.specs.Spoken.{fault_words};
 
 use hex::FromHexError;
 use std::alloc::{AllocFailed, Global};
@@ -38,13 +38,19 @@ pub enum HasherName {
     Sha3_256,
 }
 
-/// What a duplex challenger is made of.
+/// What a sponge is made of.
 #[derive(Clone, Copy)]
-pub struct DuplexParameters {
-    pub domain: DomainName,
+pub struct SpongeParameters {
     pub permutation: PermutationName,
     pub width: u64,
     pub rate: u64,
+}
+
+/// A hash function, and bytes for it: those that a hash challenger begins with, or those whose digest is asked for.
+#[derive(Drop)]
+pub struct HashParameters {
+    pub hasher: HasherName,
+    pub bytes: Vec<u8>,
 }
 
 /// What one line asks for.
@@ -52,7 +58,14 @@ pub struct DuplexParameters {
 pub enum Line {
     /// An empty line, or one that starts with `#`.
     Blank,
-    MakeDuplex(DuplexParameters),
+    MakeDuplex(DomainName, SpongeParameters),
+    /// The sampled domain, and the sponge's.
+    MakeMulti(DomainName, DomainName, SpongeParameters),
+    MakeHash(HashParameters),
+    /// The sampled domain, and the duplex challenger over bytes below.
+    MakeSerialDuplex(DomainName, SpongeParameters),
+    /// The sampled domain, and the hash challenger below.
+    MakeSerialHash(DomainName, HashParameters),
     Observe(Vec<u64>),
     Digest(Vec<u64>),
     Digest64(Vec<u64>),
@@ -69,17 +82,9 @@ pub enum Line {
     Find(u64, u64),
     Held,
     Finalize,
-    /// The hash function and the bytes.
-    HashOf(HasherName, Vec<u8>),
-}
-
-/// What the format has and this build does not play.
-#[derive(Clone, Copy)]
-pub enum Part {
-    MultiField,
-    Hash,
-    Serializing,
-    Helpers,
+    HashOf(HashParameters),
+    /// The sampled domain, and the sponge's.
+    Helpers(DomainName, DomainName),
 }
 
 /// Why a line cannot be read, with the word that was not understood.
@@ -88,6 +93,7 @@ pub enum Fault<'a> {
     Spacing,
     UnknownCall(&'a str),
     UnknownChallenger(&'a str),
+    UnknownTranscript(&'a str),
     UnknownDomain(&'a str),
     UnknownPermutation(&'a str),
     UnknownHasher(&'a str),
@@ -95,7 +101,6 @@ pub enum Fault<'a> {
     NotHex(&'a str),
     TooFew,
     TooMany,
-    NotInBuild(Part),
     Memory,
 }
 
@@ -107,19 +112,6 @@ impl<T: Drop> From<AllocFailed<T>> for Fault<'_> {
     }
 }
 
-impl fmt::Display for Part {
-    ghost output = { λ p. Some (part_words p) };
-
-    fn fmt<W: fmt::Write>(&self, f: &mut fmt::Formatter<W>) -> fmt::Result {
-        match self {
-            Part::MultiField => write!(f, "multi-field challenger"),
-            Part::Hash => write!(f, "hash challenger"),
-            Part::Serializing => write!(f, "serializing challenger"),
-            Part::Helpers => write!(f, "call helpers"),
-        }
-    }
-}
-
 impl fmt::Display for Fault<'_> {
     ghost output = { fault_words };
 
@@ -128,6 +120,7 @@ impl fmt::Display for Fault<'_> {
             Fault::Spacing => write!(f, "words are separated by one space"),
             Fault::UnknownCall(word) => write!(f, "there is no call {word:?}"),
             Fault::UnknownChallenger(word) => write!(f, "there is no challenger {word:?}"),
+            Fault::UnknownTranscript(word) => write!(f, "there is no byte transcript {word:?}"),
             Fault::UnknownDomain(word) => write!(f, "there is no domain {word:?}"),
             Fault::UnknownPermutation(word) => write!(f, "there is no permutation {word:?}"),
             Fault::UnknownHasher(word) => write!(f, "there is no hash function {word:?}"),
@@ -135,7 +128,6 @@ impl fmt::Display for Fault<'_> {
             Fault::NotHex(word) => write!(f, "these are no pairs of hex digits: {word:?}"),
             Fault::TooFew => write!(f, "a word is missing"),
             Fault::TooMany => write!(f, "there are more words than the call takes"),
-            Fault::NotInBuild(part) => write!(f, "this build has no {part}"),
             Fault::Memory => write!(f, "there is not enough memory"),
         }
     }
@@ -301,45 +293,103 @@ impl<'a> Rest<'a> {
         }
     }
 
+    /// A domain, and what follows it.
+    fn domain(self) -> Result<(DomainName, Rest<'a>), Fault<'a>>
+        ensures { option_map (λ (p : DomainName × Rest). (p.0, left p.1)) (result_ok result) ≡ domain_first (left self.entry) }
+    {
+        let (word, rest) = cut(self.text.ok_or(Fault::TooFew)?);
+        Ok((DomainName::try_from(word)?, rest))
+    }
+
+    /// Two domains, and what follows them.
+    fn domains(self) -> Result<(DomainName, DomainName, Rest<'a>), Fault<'a>>
+        ensures { option_map (λ (p : DomainName × DomainName × Rest). (p.0, p.1, left p.2)) (result_ok result) ≡ domains_first (left self.entry) }
+    {
+        let (sampled, rest) = self.domain()?;
+        let (domain, rest) = rest.domain()?;
+        Ok((sampled, domain, rest))
+    }
+
+    /// PERM WIDTH RATE.
+    fn sponge(self) -> Result<SpongeParameters, Fault<'a>>
+        ensures { result_ok result ≡ sponge_of (left self.entry) }
+    {
+        let (word, rest) = cut(self.text.ok_or(Fault::TooFew)?);
+        let permutation = PermutationName::try_from(word)?;
+        let (width, rate) = rest.two()?;
+        Ok(SpongeParameters {
+            permutation,
+            width,
+            rate,
+        })
+    }
+
+    /// HASHER HEX.
+    fn hash(self, heap: Global) -> Result<HashParameters, Fault<'a>>
+        ensures { Gives hash_parameters (hashed_of (left self.entry)) result }
+    {
+        let (word, rest) = cut(self.text.ok_or(Fault::TooFew)?);
+        let hasher = HasherName::try_from(word)?;
+        let bytes = bytes(heap, rest.text.ok_or(Fault::TooFew)?)?;
+        Ok(HashParameters { hasher, bytes })
+    }
+
     /// DOMAIN PERM WIDTH RATE.
     fn duplex(self) -> Result<Line, Fault<'a>>
         ensures { option_map meaning (result_ok result) ≡ duplex_of (left self.entry) }
     {
-        let (first, rest) = cut(self.text.ok_or(Fault::TooFew)?);
-        let domain = DomainName::try_from(first)?;
-        let (second, rest) = cut(rest.text.ok_or(Fault::TooFew)?);
-        let permutation = PermutationName::try_from(second)?;
-        let (width, rate) = rest.two()?;
-        Ok(Line::MakeDuplex(DuplexParameters {
-            domain,
-            permutation,
-            width,
-            rate,
-        }))
+        let (domain, rest) = self.domain()?;
+        Ok(Line::MakeDuplex(domain, rest.sponge()?))
     }
 
-    /// HASHER HEX.
-    fn hash_of(self, heap: Global) -> Result<Line, Fault<'a>>
-        ensures { Gives meaning (hash_of (left self.entry)) result }
+    /// SAMPLED SPONGE PERM WIDTH RATE.
+    fn multi(self) -> Result<Line, Fault<'a>>
+        ensures { option_map meaning (result_ok result) ≡ multi_of (left self.entry) }
     {
-        let (first, rest) = cut(self.text.ok_or(Fault::TooFew)?);
-        let hasher = HasherName::try_from(first)?;
-        let text = bytes(heap, rest.text.ok_or(Fault::TooFew)?)?;
-        Ok(Line::HashOf(hasher, text))
+        let (sampled, domain, rest) = self.domains()?;
+        Ok(Line::MakeMulti(sampled, domain, rest.sponge()?))
+    }
+
+    /// What a serializing challenger over a sampled domain stands on.
+    fn transcript(self, heap: Global, sampled: DomainName) -> Result<Line, Fault<'a>>
+        ensures { Gives meaning (below sampled (left self.entry)) result }
+    {
+        let (kind, rest) = cut(self.text.ok_or(Fault::TooFew)?);
+        match kind {
+            "duplex" => Ok(Line::MakeSerialDuplex(sampled, rest.sponge()?)),
+            "hash" => Ok(Line::MakeSerialHash(sampled, rest.hash(heap)?)),
+            _ => Err(Fault::UnknownTranscript(kind)),
+        }
+    }
+
+    /// SAMPLED, and a byte transcript.
+    fn serial(self, heap: Global) -> Result<Line, Fault<'a>>
+        ensures { Gives meaning (serial_of (left self.entry)) result }
+    {
+        let (sampled, rest) = self.domain()?;
+        rest.transcript(heap, sampled)
     }
 
     /// What a challenger is made of.
-    fn make(self) -> Result<Line, Fault<'a>>
-        ensures { option_map meaning (result_ok result) ≡ make_of (left self.entry) }
+    fn make(self, heap: Global) -> Result<Line, Fault<'a>>
+        ensures { Gives meaning (make_of (left self.entry)) result }
     {
         let (kind, rest) = cut(self.text.ok_or(Fault::TooFew)?);
         match kind {
             "duplex" => rest.duplex(),
-            "multi" => Err(Fault::NotInBuild(Part::MultiField)),
-            "hash" => Err(Fault::NotInBuild(Part::Hash)),
-            "serial" => Err(Fault::NotInBuild(Part::Serializing)),
+            "multi" => rest.multi(),
+            "hash" => Ok(Line::MakeHash(rest.hash(heap)?)),
+            "serial" => rest.serial(heap),
             _ => Err(Fault::UnknownChallenger(kind)),
         }
+    }
+
+    /// Two domains.
+    fn helpers(self) -> Result<Line, Fault<'a>>
+        ensures { option_map meaning (result_ok result) ≡ helpers_of (left self.entry) }
+    {
+        let (sampled, domain, rest) = self.domains()?;
+        rest.nothing(Line::Helpers(sampled, domain))
     }
 
     /// A call with two numbers.
@@ -391,9 +441,9 @@ fn read_words(heap: Global, text: &str) -> Result<Line, Fault<'_>>
 {
     let (name, rest) = cut(text);
     match name {
-        "make" => rest.make(),
-        "hashof" => rest.hash_of(heap),
-        "helpers" => Err(Fault::NotInBuild(Part::Helpers)),
+        "make" => rest.make(heap),
+        "hashof" => Ok(Line::HashOf(rest.hash(heap)?)),
+        "helpers" => rest.helpers(),
         _ => rest.call(heap, name),
     }
 }
@@ -410,7 +460,7 @@ fn respaced<'a>(text: &'a str, fault: Fault<'a>) -> Fault<'a>
 }
 
 /// Reads one line, given without its line end. An `Ok` is what the line says; an `Err` comes only
-/// where it says nothing that this build plays, or memory is short.
+/// where it says nothing, or memory is short.
 pub fn read_line(heap: Global, text: &str) -> Result<Line, Fault<'_>>
     ensures { Gives meaning (said_by text.now) result }
 {
@@ -471,7 +521,26 @@ mod tests {
                 "make duplex bytes ladder 3 2",
                 "there is no permutation \"ladder\"",
             ),
-            ("make hash sha256 -", "this build has no hash challenger"),
+            ("make multi bytes goldilocks mirror 3 2", "ok"),
+            (
+                "make multi bytes mirror 3 2",
+                "there is no domain \"mirror\"",
+            ),
+            ("make hash sha256 -", "ok"),
+            ("make hash sha256", "a word is missing"),
+            ("make serial babybear duplex mirror 3 2", "ok"),
+            ("make serial babybear hash sha3-256 00ff", "ok"),
+            (
+                "make serial babybear multi",
+                "there is no byte transcript \"multi\"",
+            ),
+            ("make serial babybear", "a word is missing"),
+            ("make tape", "there is no challenger \"tape\""),
+            ("helpers bytes goldilocks", "ok"),
+            (
+                "helpers bytes goldilocks 3",
+                "there are more words than the call takes",
+            ),
             ("hashof sha256 -", "ok"),
             ("hashof sha3-256 616263", "ok"),
             ("hashof sha3-256 aF", "ok"),

@@ -1,4 +1,4 @@
-//! Plays the worked cases of the duplex challenger, input at every limit, and digests of bytes.
+//! Plays the worked cases and input at every limit, digests of bytes, and a bale's transcript over SHA-256 on both ends.
 #![tactic(auto)]
 
 use std::{fs, io};
@@ -14,8 +14,20 @@ fn play(rt: &HostRuntime, path: &str) -> io::Result<()> {
     }
 }
 
+/// Prints the tables; fails if the script is refused.
+fn rehearse(rt: &HostRuntime, path: &str) -> io::Result<()> {
+    let text = fs::read_to_string(rt, path)?;
+    match player::agree(rt.alloc(), text.as_str()) {
+        Ok(table) => rt.print(table.as_str()),
+        Err(_) => Err(io::Error::from(io::ErrorKind::InvalidData)),
+    }
+}
+
 fn main(rt: HostRuntime) -> io::Result<()> {
     play(&rt, "worked.txt")?;
     play(&rt, "limits.txt")?;
-    play(&rt, "hashes.txt")
+    play(&rt, "multi.txt")?;
+    play(&rt, "transcripts.txt")?;
+    play(&rt, "hashes.txt")?;
+    rehearse(&rt, "bale-sha256.txt")
 }

@@ -1,10 +1,10 @@
 use Rattle.std.proofs.Common.{ℕ, List, sym, IsTrue, vec_items}
 use Rattle.std.proofs.lemmas.List.Elements.{All-map}
 use Rattle.rehearsal.specs.Lines.{line_of}
-use Rattle.player.specs.Admitted.{rehearsable}
+use Rattle.player.specs.Admitted.{readable}
 use Rattle.player.proofs.agreement.agree.Goals as goal
 
 pub returns : goal.returns
 returns c =
-    let fits : ℕ × List ℕ → Type 0 = λ p. IsTrue (rehearsable p.1) in
+    let fits : ℕ × List ℕ → Type 0 = λ p. IsTrue (readable p.1) in
     rw (sym c.in_ok-lines.ensures) (All-map fits line_of (vec_items c.in_ok-lines.lines) (rw (sym c.as_slice.ensures.value) c.in_ok-admit.ensures))

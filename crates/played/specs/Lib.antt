@@ -1,0 +1,4 @@
+pub mod Permutations
+pub mod Requests
+pub mod Spoken
+pub mod Shown

@@ -1,0 +1,45 @@
+// The hash challenger.
+ghost use Rattle.std.specs.Prelude.{Some};
+ghost use Rattle.transcript.specs.Transcript.{sought};
+ghost use Rattle.hash_challenger.specs.Meaning.{hash_transcript};
+ghost use Rattle.printing.specs.Spoken.{hex_words};
+ghost use Rattle.played.specs.declared.dialect.Dialect.TheVariants.{Bytes};
+ghost use Rattle.played.specs.Shown.{hash_held_words};
+
+use crate::{Dialect, Played, Shown};
+use hash_challenger::HashChallenger;
+use hasher::CryptographicHasher;
+use printing::hex_text;
+use std::alloc::{AllocError, Global};
+use transcript::ByteGrindingChallenger;
+
+impl<H: CryptographicHasher<N> + Copy, const N: usize> Shown for HashChallenger<H, N> {
+    ghost shown = { hash_held_words };
+
+    ghost ending = { λ k h. hex_words (H.digest h.input) };
+
+    fn held(&self, heap: Global) -> Result<String, AllocError> {
+        let input = hex_text(heap, self.input())?;
+        let outputs = hex_text(heap, self.outputs())?;
+        format!(in heap; "input={input} outputs={outputs}")
+    }
+
+    fn digest(&self, heap: Global) -> Result<String, AllocError> {
+        let bytes = self.finalize();
+        hex_text(heap, &bytes)
+    }
+}
+
+impl<H: CryptographicHasher<N> + Copy, const N: usize> Played for HashChallenger<H, N> {
+    ghost speaks = { Bytes };
+
+    ghost found = { λ k h n mask. Some (sought (hash_transcript H.digest H.hashing) h n mask) };
+
+    fn dialect(&self) -> Dialect {
+        Dialect::Bytes
+    }
+
+    fn find(&self, candidates: u64, mask: u64) -> Option<Option<u64>> {
+        Some(self.find_witness(candidates, mask))
+    }
+}

@@ -1,0 +1,39 @@
+// The serializing challenger: what is printed is its transcript's.
+ghost use Rattle.std.specs.Prelude.{None};
+ghost use Rattle.played.specs.declared.dialect.Dialect.TheVariants.{Serializing};
+
+use crate::{Dialect, Played, Shown};
+use domain::Domain;
+use serializing::SerializingChallenger32;
+use std::alloc::{AllocError, Global};
+use transcript::{ByteGrindingChallenger, ByteTranscript};
+
+impl<D: Domain<ORDER>, T: ByteTranscript + Shown, const ORDER: u64> Shown
+    for SerializingChallenger32<D, T, ORDER> {
+    ghost shown = { T.shown };
+
+    ghost ending = { T.ending };
+
+    fn held(&self, heap: Global) -> Result<String, AllocError> {
+        self.inner().held(heap)
+    }
+
+    fn digest(&self, heap: Global) -> Result<String, AllocError> {
+        self.inner().digest(heap)
+    }
+}
+
+impl<D: Domain<ORDER> + Copy, T: ByteGrindingChallenger + Shown + Copy, const ORDER: u64> Played
+    for SerializingChallenger32<D, T, ORDER> {
+    ghost speaks = { Serializing };
+
+    ghost found = { λ k h n mask. None };
+
+    fn dialect(&self) -> Dialect {
+        Dialect::Serializing
+    }
+
+    fn find(&self, _candidates: u64, _mask: u64) -> Option<Option<u64>> {
+        None
+    }
+}

@@ -1,0 +1,147 @@
+// The challengers over a sponge.
+ghost use Rattle.std.specs.Prelude.{◌≡◌, ℕ, Some, None, Option};
+ghost use Rattle.sponge.specs.Sponge.{SpongeMake as SpongeMakeT};
+ghost use Rattle.sponge.specs.SpongeHeld.{of_make};
+ghost use Rattle.transcript.specs.Transcript.{sought};
+ghost use Rattle.duplex.specs.declared.held.DuplexHeld.{DuplexHeld as DuplexHeldT};
+ghost use Rattle.duplex.specs.Bytes.{byte_transcript};
+ghost use Rattle.duplex.specs.Holds.{held as duplex_held, making as duplex_making};
+ghost use Rattle.duplex.specs.Rules.{finalized as duplex_finalized};
+ghost use Rattle.multi_field.specs.Rules.{finalized as multi_finalized};
+ghost use Rattle.played.specs.declared.dialect.Dialect.TheVariants.{Codes};
+ghost use Rattle.played.specs.Permutations.{image as image_of};
+ghost use Rattle.played.specs.Shown.{duplex_words, multi_words, codes_words};
+
+use crate::{Dialect, Permutation, Played, Shown};
+use domain::{BabyBear, Bytes, Domain, Goldilocks, KoalaBear};
+use duplex::DuplexChallenger;
+use multi_field::MultiField32Challenger;
+use permutation::CryptographicPermutation;
+use printing::{Held, Listed};
+use std::alloc::{AllocError, Global};
+use transcript::ByteGrindingChallenger;
+
+impl<D: Domain<ORDER> + Copy, P: CryptographicPermutation<D, ORDER> + Copy, const ORDER: u64> Shown
+    for DuplexChallenger<D, P, ORDER> {
+    ghost shown = { duplex_words };
+
+    ghost ending = { λ m h. codes_words (duplex_finalized (of_make D.arithmetic P.image m) h) };
+
+    fn held(&self, heap: Global) -> Result<String, AllocError> {
+        let held = Held {
+            row: self.row(),
+            pending: self.pending(),
+            outputs: self.outputs(),
+        };
+        format!(in heap; "{held}")
+    }
+
+    fn digest(&self, heap: Global) -> Result<String, AllocError> {
+        let codes = self.finalize();
+        format!(in heap; "{}", Listed::with_spaces(codes.as_slice()))
+    }
+}
+
+// Kept as an impl for each domain, here and below: a search asks that codes are bytes, and a method of a trait of domains, which took the challenger, had no proof made for its impls.
+impl Played for DuplexChallenger<Bytes, Permutation, 256> {
+    ghost speaks = { Codes };
+
+    ghost found = { λ m h n mask. Some (sought (byte_transcript (of_make ⟦<Bytes as Domain<256>>⟧.arithmetic (image_of ⟦<Bytes as Domain<256>>⟧.arithmetic) m)) h n mask) };
+
+    fn dialect(&self) -> Dialect {
+        Dialect::Codes
+    }
+
+    fn find(&self, candidates: u64, mask: u64) -> Option<Option<u64>> {
+        Some(self.find_witness(candidates, mask))
+    }
+}
+
+impl Played for DuplexChallenger<BabyBear, Permutation, 2013265921> {
+    ghost speaks = { Codes };
+
+    ghost found = { λ m h n mask. None };
+
+    fn dialect(&self) -> Dialect {
+        Dialect::Codes
+    }
+
+    fn find(&self, _candidates: u64, _mask: u64) -> Option<Option<u64>> {
+        None
+    }
+}
+
+impl Played for DuplexChallenger<KoalaBear, Permutation, 2130706433> {
+    ghost speaks = { Codes };
+
+    ghost found = { λ m h n mask. None };
+
+    fn dialect(&self) -> Dialect {
+        Dialect::Codes
+    }
+
+    fn find(&self, _candidates: u64, _mask: u64) -> Option<Option<u64>> {
+        None
+    }
+}
+
+impl Played for DuplexChallenger<Goldilocks, Permutation, 18446744069414584321> {
+    ghost speaks = { Codes };
+
+    ghost found = { λ m h n mask. None };
+
+    fn dialect(&self) -> Dialect {
+        Dialect::Codes
+    }
+
+    fn find(&self, _candidates: u64, _mask: u64) -> Option<Option<u64>> {
+        None
+    }
+}
+
+impl<
+    F: Domain<SAMPLED> + Copy,
+    D: Domain<ORDER> + Copy,
+    P: CryptographicPermutation<D, ORDER> + Copy,
+    const SAMPLED: u64,
+    const ORDER: u64,
+> Shown for MultiField32Challenger<F, D, P, SAMPLED, ORDER> {
+    ghost shown = { multi_words };
+
+    ghost ending = { λ m h. codes_words (multi_finalized SAMPLED (of_make D.arithmetic P.image m) h) };
+
+    fn held(&self, heap: Global) -> Result<String, AllocError> {
+        let held = Held {
+            row: self.row(),
+            pending: self.pending(),
+            outputs: self.outputs(),
+        };
+        let squeeze = Listed::with_commas(self.squeeze());
+        format!(in heap; "{held} squeeze={squeeze}")
+    }
+
+    fn digest(&self, heap: Global) -> Result<String, AllocError> {
+        let codes = self.finalize();
+        format!(in heap; "{}", Listed::with_spaces(codes.as_slice()))
+    }
+}
+
+impl<
+    F: Domain<SAMPLED> + Copy,
+    D: Domain<ORDER> + Copy,
+    P: CryptographicPermutation<D, ORDER> + Copy,
+    const SAMPLED: u64,
+    const ORDER: u64,
+> Played for MultiField32Challenger<F, D, P, SAMPLED, ORDER> {
+    ghost speaks = { Codes };
+
+    ghost found = { λ m h n mask. None };
+
+    fn dialect(&self) -> Dialect {
+        Dialect::Codes
+    }
+
+    fn find(&self, _candidates: u64, _mask: u64) -> Option<Option<u64>> {
+        None
+    }
+}

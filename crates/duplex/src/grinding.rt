@@ -1,8 +1,11 @@
 // Checking and grinding.
+ghost use Rattle.prepared.specs.Blocks.{last_with};
+
 use crate::DuplexChallenger;
 use domain::Domain;
-use interface::{CanStartCheck, GrindingChallenger, check_by_parts, grind_by_trial};
+use interface::{CanStartCheck, GrindingChallenger, check_by_parts};
 use permutation::CryptographicPermutation;
+use prepared::{CanPrepare, PreparedBlock, grind_prepared};
 use refusal::Refusal;
 
 impl<D: Domain<ORDER>, P: CryptographicPermutation<D, ORDER>, const ORDER: u64> CanStartCheck
@@ -10,6 +13,26 @@ impl<D: Domain<ORDER>, P: CryptographicPermutation<D, ORDER>, const ORDER: u64> 
     ghost started = { λ m h. h };
 
     fn start_check(&mut self) {}
+}
+
+impl<
+    D: Domain<ORDER> + Copy,
+    P: CryptographicPermutation<D, ORDER> + Copy,
+    const ORDER: u64,
+> CanPrepare for DuplexChallenger<D, P, ORDER> {
+    type Prepared = PreparedBlock<ORDER>;
+
+    ghost drawn = { λ m. last_with (P.image m.permutation) };
+
+    fn prepare(&self) -> PreparedBlock<ORDER> {
+        let mut codes = self.pending;
+        codes.push(0);
+        PreparedBlock::new(&self.sponge, &codes, codes.len() as u64)
+    }
+
+    fn drawn(&self, prepared: &PreparedBlock<ORDER>, witness: u64) -> u64 {
+        prepared.last_output::<D, P>(self.sponge.permutation(), witness)
+    }
 }
 
 // Kept as an impl of each challenger: a body in the trait would ask `Copy` of every challenger, which the trait does not.
@@ -23,6 +46,6 @@ impl<
     }
 
     fn grind(&mut self, bits: u64, budget: u64) -> Result<(u64, u64), Refusal> {
-        grind_by_trial(self, bits, budget)
+        grind_prepared(self, bits, budget)
     }
 }

@@ -40,9 +40,16 @@ impl<D: Domain<ORDER>, P: CryptographicPermutation<D, ORDER>, const ORDER: u64> 
 > {
     ghost use Rattle.std.specs.Prelude.{◌≡◌, ◌<◌, ◌≤◌, [], length};
     ghost use Rattle.buffer.specs.Items.{items};
-    ghost use Rattle.sponge.specs.Sponge.{sponge_state, block_turn, empty_turn, last_output, without_last};
+    ghost use Rattle.sponge.specs.Sponge.{sponge_state, absorbed, block_turn, empty_turn, last_output, without_last};
     ghost use Rattle.sponge.specs.SpongeHeld.{held, making, SameMake};
     ghost use Rattle.sponge.specs.CodesBlock.{turned};
+
+    /// The permutation, to be used on other rows.
+    pub fn permutation(&self) -> &P
+        ensures { result.now ≡ self.now.permutation }
+    {
+        &self.permutation
+    }
 
     /// The number of cells.
     pub fn width(&self) -> usize
@@ -68,7 +75,19 @@ impl<D: Domain<ORDER>, P: CryptographicPermutation<D, ORDER>, const ORDER: u64> 
         self.outputs.len()
     }
 
-    /// A turn with a block, these words under this tag: they are written into the first cells, the rest of the rate is zeroed, and cell `rate` gains the tag.
+    /// Writes a block, these words under this tag: they go into the first cells, the rest of the rate is zeroed, and cell `rate` gains the tag.
+    pub fn write_block(&mut self, words: &Buffer<ORDER, 64>, tag: u64)
+        requires room { length (items words.now) ≤ self.old.rate }
+        requires tagged { tag ≤ 255 }
+        ensures state { held self.new ≡ sponge_state (absorbed (making self.old) (held self.old).row (items words.now) tag) (held self.old).outputs }
+        ensures make { SameMake self.new self.old }
+    {
+        let tagged = D::add(self.row.get(self.rate), tag);
+        self.row.overwrite(words, self.rate);
+        self.row.put(self.rate, tagged);
+    }
+
+    /// A turn with a block: it is written, and the row is permuted.
     pub fn absorb(&mut self, words: &Buffer<ORDER, 64>, tag: u64)
         requires room { length (items words.now) ≤ self.old.rate }
         requires tagged { tag ≤ 255 }
@@ -76,9 +95,7 @@ impl<D: Domain<ORDER>, P: CryptographicPermutation<D, ORDER>, const ORDER: u64> 
         ensures make { SameMake self.new self.old }
         ensures full { length (held self.new).outputs ≡ self.old.rate }
     {
-        let tagged = D::add(self.row.get(self.rate), tag);
-        self.row.overwrite(words, self.rate);
-        self.row.put(self.rate, tagged);
+        self.write_block(words, tag);
         self.permute();
     }
 

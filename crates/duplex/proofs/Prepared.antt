@@ -1,0 +1,74 @@
+-- What a sample gives once a witness was taken.
+use Rattle.std.proofs.Common.{◌≡◌, ℕ, ◌+◌, ◌-◌, ◌<◌, ◌≤◌, cond, ◌||◌, eqb, List, [], ◌∷◌, ◌++◌, length, sym, refl, ap, ◌∙◌, inl, inr, arith}
+use Rattle.std.proofs.lemmas.Bool.{cases_Bool, cond-true, cond-false, lt-ltb, ne_eqb}
+use Rattle.std.proofs.lemmas.List.{length-append, set_at}
+use Rattle.domain.specs.declared.Domain.{Ghosts as DomainGhosts}
+use Rattle.permutation.specs.declared.CryptographicPermutation.{Ghosts as PermutationGhosts}
+use Rattle.permutation.specs.Rows.{Codes}
+use Rattle.buffer.specs.declared.Buffer.{Buffer}
+use Rattle.buffer.specs.Items.{items}
+use Rattle.buffer.proofs.Facts.{codes-append}
+use Rattle.sponge.specs.declared.Sponge.{Sponge}
+use Rattle.sponge.specs.Sponge.{SpongeMake, SpongeState, block_turn, last_output}
+use Rattle.sponge.specs.CodesBlock.{turned as sponge_turned}
+use Rattle.sponge.specs.SpongeHeld.{held as sponge_held, making}
+use Rattle.sponge.proofs.Absorbing.{Words}
+use Rattle.sponge.proofs.Turning.{rate_small}
+use Rattle.prepared.specs.Tests.{with_last}
+use Rattle.prepared.proofs.Written.{block-full}
+use Rattle.duplex.specs.declared.held.DuplexHeld.{DuplexHeld}
+use Rattle.duplex.specs.Rules.{holding, turned, taken, ready, sample_of}
+
+turned_some : {order : ℕ} (k : SpongeMake order) (row xs : List ℕ) → 0 < length xs → sponge_turned k row xs ≡ block_turn k row xs (length xs)
+turned_some k row [] any = absurd (omega arith)
+turned_some k row (x ∷ xs) any = refl
+
+module _ {order : ℕ} (k : SpongeMake order) (h : DuplexHeld) (w : ℕ) where
+  abbrev pub block : List ℕ
+  block = (block_turn k h.row (h.pending ++ (w ∷ [])) (length (h.pending ++ (w ∷ [])))).outputs
+
+  abbrev more : DuplexHeld
+  more = holding h.row (h.pending ++ (w ∷ [])) []
+
+  some : 0 < length (h.pending ++ (w ∷ []))
+  some = omega (arith, length-append h.pending (w ∷ []))
+
+  outputs_are : (turned k more).outputs ≡ block
+  unfolding turned
+  outputs_are = ap (λ (s : SpongeState). s.outputs) (turned_some k h.row (h.pending ++ (w ∷ [])) some)
+
+  ready-turned : 1 ≤ length (turned k more).outputs → ready k (turned k more) ≡ turned k more
+  unfolding ready turned
+  ready-turned any = cond-false _ _ _ (ne_eqb (length (turned k more).outputs) 0 (λ e. omega arith))
+
+  ready-more : ready k more ≡ turned k more
+  unfolding ready
+  ready-more = ap (λ x. cond (x || eqb 0 0) (turned k more) more) (lt-ltb 0 (length more.pending) some)
+
+  -- one turn comes, at the latest when a sample is asked for
+  ready_is : 1 ≤ length (turned k more).outputs → ready k (taken k h w) ≡ turned k more
+  unfolding taken
+  ready_is any =
+      elim (cases_Bool (eqb (length more.pending) k.rate)) [
+        | inl t ↦ ap (ready k) (cond-true _ (turned k more) more t) ∙ ready-turned any
+        | inr f ↦ ap (ready k) (cond-false _ (turned k more) more f) ∙ ready-more
+      ]
+
+  pub drawn_said : 1 ≤ length block → last_output block ≡ (sample_of k (taken k h w)).said
+  unfolding sample_of
+  drawn_said any =
+      sym (ap (λ (g : DuplexHeld). last_output g.outputs) (ready_is (omega (arith, any, ap length outputs_are))) ∙ ap last_output outputs_are)
+
+-- the codes with a 0 in the last place, and there the witness
+pub with_witness : (xs : List ℕ) (w : ℕ) → with_last (xs ++ (0 ∷ [])) w ≡ xs ++ (w ∷ [])
+with_witness xs w = set_at xs 0 [] w (length (xs ++ (0 ∷ [])) - 1) (omega (arith, length-append xs (0 ∷ [])))
+
+-- the outputs of the block's turn are some
+pub full : {D P : Type 0} {order : ℕ} {d : DomainGhosts D order} {p : PermutationGhosts P D order} (s : Sponge D P order d p) (b : Buffer order 64) (w : ℕ) → w < order → length (items b) < s.rate
+    → 1 ≤ length (block_turn (making s) (sponge_held s).row (items b ++ (w ∷ [])) (length (items b ++ (w ∷ [])))).outputs
+full {order = order} s b w lt room =
+    let xs = items b ++ (w ∷ []) in
+    let l : length xs ≡ length (items b) + 1 = length-append (items b) (w ∷ []) in
+    let last : Codes order (w ∷ []) = λ k i. (let z : k ≡ 0 = omega (arith, i) in rw z lt) in
+    let words : Words order s.rate xs = record { few = omega (arith, l, room); codes = codes-append order (items b) (w ∷ []) b.codes last } in
+    omega (arith, s.some, block-full s xs (length xs) words (omega (arith, l, room, rate_small s)))

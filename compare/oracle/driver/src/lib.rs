@@ -1,9 +1,12 @@
-//! The permutations and the hash functions, as docs/RULES.md of the repository has them, for the published challengers.
+//! The permutations, the hash functions and the byte duplex, as docs/RULES.md of the repository has them, for the
+//! published challengers.
 
+mod byte_duplex;
 mod permutation;
 mod sha256;
 mod sha3;
 
+pub use byte_duplex::ByteDuplex;
 pub use permutation::Perm;
 pub use sha3::sha3_256;
 pub use sha256::sha256;

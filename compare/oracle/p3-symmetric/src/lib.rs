@@ -32,22 +32,22 @@ pub trait CryptographicHasher<Item: Clone, Out>: Clone {
 /// A digest of N words; F is the field of the challenger that observes it.
 #[derive(Clone, Copy, Debug, PartialEq, Eq)]
 pub struct Hash<F, W, const N: usize> {
-    value: [W; N],
-    _marker: PhantomData<F>,
+    words: [W; N],
+    field: PhantomData<F>,
 }
 
 impl<F, W, const N: usize> From<[W; N]> for Hash<F, W, N> {
-    fn from(value: [W; N]) -> Self {
+    fn from(words: [W; N]) -> Self {
         Self {
-            value,
-            _marker: PhantomData,
+            words,
+            field: PhantomData,
         }
     }
 }
 
 impl<F, W, const N: usize> AsRef<[W; N]> for Hash<F, W, N> {
     fn as_ref(&self) -> &[W; N] {
-        &self.value
+        &self.words
     }
 }
 
@@ -55,7 +55,7 @@ impl<F, W, const N: usize> IntoIterator for Hash<F, W, N> {
     type Item = W;
     type IntoIter = core::array::IntoIter<W, N>;
     fn into_iter(self) -> Self::IntoIter {
-        self.value.into_iter()
+        self.words.into_iter()
     }
 }
 
@@ -63,7 +63,7 @@ impl<F, W, const N: usize> IntoIterator for Hash<F, W, N> {
 #[derive(Clone, Debug, PartialEq, Eq)]
 pub struct MerkleCap<F, D> {
     roots: Vec<D>,
-    _marker: PhantomData<F>,
+    field: PhantomData<F>,
 }
 
 impl<F, D> MerkleCap<F, D> {

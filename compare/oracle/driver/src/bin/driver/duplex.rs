@@ -2,7 +2,7 @@
 
 use std::marker::PhantomData;
 
-use driver::Perm;
+use driver::{ByteDuplex, Perm};
 use p3_challenger::{
     CanFinalizeDigest, CanObserve, CanSample, CanSampleBits, CanSampleUniformBits, DuplexChallenger,
 };
@@ -11,7 +11,7 @@ use p3_field::{BYTES, Bytes, Code, PrimeCharacteristicRing, UniformSamplingField
 use crate::answer::{Answer, ask_bits, ask_codes, ask_limit, debug, held_sponge, no_call, numbers};
 use crate::challenger::{self, Challenger, codes, observe_words};
 use crate::table::OfPair;
-use crate::transcript::{ByteDuplex, find};
+use crate::transcript::find;
 
 type Rust<const O: u64, const W: usize, const R: usize> = DuplexChallenger<Code<O>, Perm, W, R>;
 

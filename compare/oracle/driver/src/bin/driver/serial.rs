@@ -3,7 +3,7 @@
 use std::fmt::Debug;
 use std::marker::PhantomData;
 
-use driver::{Perm, Sha3, Sha256};
+use driver::{ByteDuplex, Perm, Sha3, Sha256};
 use p3_challenger::{
     CanFinalizeDigest, CanObserve, CanSample, CanSampleBits, CanSampleUniformBits,
     DuplexChallenger, HashChallenger, SerializingChallenger32,
@@ -15,7 +15,7 @@ use crate::answer::{Answer, ask_bits, ask_codes, ask_limit, ask_room, bytes_of, 
 use crate::challenger::{self, Challenger, codes, observe_words};
 use crate::read::Hasher;
 use crate::table::OfPair;
-use crate::transcript::{ByteDuplex, Noted, Transcript, drawn_in_all, last_word};
+use crate::transcript::{Noted, Transcript, drawn_in_all, last_word};
 
 struct Serial<const O: u64, T>(SerializingChallenger32<Code<O>, Noted<T>>);
 

@@ -5,7 +5,7 @@
     run.py --scripts N --seed S  N scripts of the seeds from S on
     run.py FILE..                the scripts in these files
 
-Exit status 1 where a difference stands that KNOWN does not list. scripts.py makes the scripts, README.md tells the rest.
+Exit status 1 where a difference stands that KNOWN does not list. scripts.py makes the scripts; README.md has more.
 """
 
 import argparse
@@ -26,6 +26,8 @@ KNOWN = []
 
 # So many scripts go through the program in one run of it.
 BATCH = 200
+# A run of the program that takes longer has no answers.
+SECONDS = 60
 # So many differences are shown in full.
 SHOWN = 10
 
@@ -35,14 +37,15 @@ BITS_OR_CODES = {"bits": ["ok", "no 20"], "check": ["ok yes", "ok no", "no 20", 
 WANTED = {
     "duplex": BITS_OR_CODES | {
         "observe": ["ok", "no 23"], "digest": ["ok", "no 23"], "digest64": ["no-call"], "sample": ["ok"],
-        "sample LIMIT": ["no-call"], "uniform": ["ok", "no 20", "no 21", "no 26"], "find": ["ok", "ok none", "no-call"]},
+        "sample LIMIT": ["no-call"], "uniform": ["ok", "no 20", "no 21", "no 26"],
+        "find": ["ok", "ok none", "no-call"]},
     "multi": BITS_OR_CODES | {
         "observe": ["ok", "no 23"], "digest": ["ok", "no 23"], "digest64": ["no-call"], "sample": ["ok"],
         "sample LIMIT": ["no-call"], "uniform": ["no-call"], "find": ["no-call"]},
     "hash": {
         "observe": ["ok", "no 24", "not-bytes"], "digest": ["ok", "no 24", "not-bytes"], "digest64": ["no-call"],
-        "sample": ["ok"], "sample LIMIT": ["no-call"], "bits": ["no-call"], "uniform": ["no-call"], "check": ["no-call"],
-        "grind": ["no-call"], "find": ["ok", "ok none"], "held": ["held"], "finalize": ["ok"]},
+        "sample": ["ok"], "sample LIMIT": ["no-call"], "bits": ["no-call"], "uniform": ["no-call"],
+        "check": ["no-call"], "grind": ["no-call"], "find": ["ok", "ok none"], "held": ["held"], "finalize": ["ok"]},
     "serial": BITS_OR_CODES | {
         "observe": ["ok", "no 23", "no 24"], "digest": ["ok", "no 24", "not-bytes"], "digest64": ["ok", "no 24"],
         "sample": ["no-call"], "sample LIMIT": ["ok", "no 21", "no 26"], "uniform": ["ok", "no 20", "no 21"],
@@ -55,18 +58,24 @@ WANTED_EXTRA = {"hashof": ["ok"], "helpers": ["ok", "no 11"]}
 
 # ---- playing ----
 
-def play(command, text):
-    """The answers of a program to a script."""
-    given = subprocess.run(command, input=text.encode(), stdout=subprocess.PIPE, stderr=subprocess.DEVNULL)
+def play(command, lines):
+    """The answers of a program to a script: none where it takes longer than SECONDS."""
+    text = "".join(line + "\n" for line in lines)
+    try:
+        given = subprocess.run(
+            command, input=text.encode(), stdout=subprocess.PIPE, stderr=subprocess.DEVNULL, timeout=SECONDS
+        )
+    except subprocess.TimeoutExpired:
+        return []
     return given.stdout.decode().split("\n")[:-1]
 
 
 def play_each(command, texts):
     """The answers to each of several scripts, where possible from one run over all of them."""
     wanted = [sum(map(scripts.asks, lines)) for lines in texts]
-    answers = play(command, "".join(line + "\n" for lines in texts for line in lines))
+    answers = play(command, [line for lines in texts for line in lines])
     if len(answers) != sum(wanted):
-        return [play(command, "".join(line + "\n" for line in lines)) for lines in texts]
+        return [play(command, lines) for lines in texts]
     parts = []
     for count in wanted:
         parts.append(answers[:count])
@@ -115,31 +124,43 @@ def compare(name, lines, program, driver):
 
 # ---- counting ----
 
+def told_by(answer):
+    """The kind of an answer."""
+    words = answer.split(" ")
+    if words[0] == "no" or answer in ("ok yes", "ok no", "ok none"):
+        return " ".join(words[:2])
+    return words[0]
+
+
+def counted_as(line, answer, kind):
+    """Under what a line is counted that is asked of this kind of challenger."""
+    words = line.split(" ")
+    if answer == "bad-line":
+        return "bad-line", "", answer
+    if words[0] in ("hashof", "helpers"):
+        return words[0], "", told_by(answer)
+    if words[0] == "make":
+        return "make", words[1], told_by(answer)
+    call = "sample LIMIT" if len(words) > 1 and words[0] == "sample" else words[0]
+    return kind, call, told_by(answer)
+
+
 def count(lines, answers):
     """How often each kind of call of each kind of challenger got each kind of answer."""
     counts, kind = collections.Counter(), "none"
     for line, answer in zip(filter(scripts.asks, lines), answers):
+        counts[counted_as(line, answer, kind)] += 1
         words = line.split(" ")
-        call = words[0]
-        told = " ".join(answer.split(" ")[:2]) if answer.startswith("no ") or answer in ("ok yes", "ok no", "ok none") else answer.split(" ")[0]
-        if call == "make":
+        if words[0] == "make":
             kind = words[1] if answer == "ok" else "none"
-        if answer == "bad-line":
-            counts["bad-line", "", told] += 1
-        elif call in ("hashof", "helpers"):
-            counts[call, "", told] += 1
-        elif call == "make":
-            counts["make", words[1], told] += 1
-        else:
-            counts[kind, "sample LIMIT" if line.startswith("sample ") else call, told] += 1
-        if call == "finalize" and answer.startswith("ok"):
+        elif line == "finalize":
             kind = "none"
     return counts
 
 
 def not_reached(counts, kinds):
     """The wanted answers that never came."""
-    wanted = [(kind, call, told) for kind in kinds for call, all_told in WANTED.get(kind, {}).items() for told in all_told]
+    wanted = [(kind, call, told) for kind in kinds for call in WANTED.get(kind, {}) for told in WANTED[kind][call]]
     wanted += [("make", kind, told) for kind in kinds for told in WANTED_MAKES.get(kind, [])]
     wanted += [(kind, "", told) for kind in kinds for told in WANTED_EXTRA.get(kind, [])]
     if "find" not in kinds:
@@ -158,8 +179,7 @@ def print_counts(counts):
 # ---- the smallest script of a difference ----
 
 def differs(words, lines):
-    text = "".join(line + "\n" for line in lines)
-    found, _ = compare("", lines, play([words.program, "run"], text), play([words.driver], text))
+    found, _ = compare("", lines, play([words.program, "run"], lines), play([words.driver], lines))
     return any(not difference.known() for difference in found)
 
 
@@ -218,7 +238,7 @@ def outcome_of_seeds(job):
 def outcome_of_file(words, path):
     with open(path, newline="\n") as file:
         lines = file.read().removesuffix("\n").split("\n")
-    return outcome_of(words, [(path, lines, play([words.driver], "".join(line + "\n" for line in lines)))])
+    return outcome_of(words, [(path, lines, play([words.driver], lines))])
 
 
 def outcomes(words):
@@ -251,7 +271,7 @@ def first_of_each(differences):
 
 
 def report(words, total):
-    print(f"scripts {total.scripts}, lines compared {total.lines}" + (f", left out for want of a pair {total.skipped}" if total.skipped else ""))
+    print(f"scripts {total.scripts}, lines compared {total.lines}, left out for want of a pair {total.skipped}")
     if not words.files:
         print(f"seeds {words.seed} to {words.seed + words.scripts - 1}, kinds {words.kinds}")
     print("the driver's answers, by challenger and call:")

@@ -47,7 +47,8 @@ class Driver:
     """The driver's process. It answers a line as soon as it is written."""
 
     def __init__(self, path):
-        self.process = subprocess.Popen([path], stdin=subprocess.PIPE, stdout=subprocess.PIPE, stderr=subprocess.DEVNULL)
+        pipe = subprocess.PIPE
+        self.process = subprocess.Popen([path], stdin=pipe, stdout=pipe, stderr=subprocess.DEVNULL)
         self.pairs = [tuple(map(int, line.split())) for line in subprocess.check_output([path, "pairs"]).splitlines()]
 
     def tell(self, line):
@@ -257,17 +258,16 @@ class Script:
         "observe": observe, "digest": digest, "digest64": digest64, "sample": sample, "bits": sample_bits,
         "uniform": uniform, "check": check, "grind": grind, "find": find, "held": held,
     }
-    # How often each kind is asked for each call.
+    # How often each kind is asked for each call, in the order of CALLS.
     WEIGHTS = {
-        "duplex": dict(observe=22, digest=8, digest64=1, sample=18, bits=8, uniform=14, check=8, grind=7, find=2, held=12),
-        "multi": dict(observe=24, digest=12, digest64=1, sample=26, bits=8, uniform=1, check=8, grind=7, find=1, held=12),
-        "hash": dict(observe=24, digest=14, digest64=1, sample=24, bits=1, uniform=1, check=1, grind=1, find=8, held=14),
-        "serial": dict(observe=16, digest=10, digest64=8, sample=22, bits=8, uniform=6, check=8, grind=7, find=1, held=12),
+        "duplex": (22, 8, 1, 18, 8, 14, 8, 7, 2, 12),
+        "multi": (24, 12, 1, 26, 8, 1, 8, 7, 1, 12),
+        "hash": (24, 14, 1, 24, 1, 1, 1, 1, 8, 14),
+        "serial": (16, 10, 8, 22, 8, 6, 8, 7, 1, 12),
     }
 
     def call_line(self, asked):
-        weights = self.WEIGHTS[asked.kind]
-        name = self.rng.choices(list(weights), list(weights.values()))[0]
+        name = self.rng.choices(list(self.CALLS), self.WEIGHTS[asked.kind])[0]
         if name == "find" and asked.kind == "duplex" and asked.sampled == "bytes" and not self.searches:
             return "held"
         return self.CALLS[name](self, asked)
@@ -294,8 +294,8 @@ class Script:
         return self.rng.choice([text, text, text.upper(), text[: count] + text[count:].upper()])
 
     def initial(self):
-        counts = BLOCK_LENGTHS + [0, 0, 0, 0, 992, 1016, 1020, 1021, 1023, 1024, 1025, 1026, 1100, self.rng.randrange(300)]
-        return self.hex(self.rng.choice(counts))
+        beside_room = [992, 1016, 1020, 1021, 1023, 1024, 1025, 1026, 1100]
+        return self.hex(self.rng.choice(BLOCK_LENGTHS + beside_room + [0, 0, 0, 0, self.rng.randrange(300)]))
 
     def make_duplex(self):
         domain = self.rng.choice(list(DOMAINS))
@@ -357,7 +357,8 @@ class Script:
         elif way == 4:
             words.append(self.rng.choice(["", "0", "1", "held"]))
         elif way == 5:
-            words[at] = words[at].upper() if self.chance(0.5) else words[at] + self.rng.choice(["x", "\r", "\t", "#", "0"])
+            longer = words[at] + self.rng.choice(["x", "\r", "\t", "#", "0"])
+            words[at] = self.rng.choice([words[at].upper(), longer])
         elif way == 6:
             words[at] = words[at][:-1]
         else:
@@ -438,8 +439,8 @@ class Script:
         """Calls, mostly after a finalize or a refused make."""
         for _ in range(self.rng.choice([0, 0, 0, 1, 2])):
             asked = self.asked or Asked("duplex", "bytes", 256, 256)
-            self.say(self.rng.choice([self.safe_call(asked), "finalize", "held", "grind 1 5", "uniform 1 1", "digest64"]
-                                     + ([] if self.asked else ["find 1 0"])))
+            lines = [self.safe_call(asked), "finalize", "held", "grind 1 5", "uniform 1 1", "digest64"]
+            self.say(self.rng.choice(lines + ([] if self.asked else ["find 1 0"])))
             if self.lines[-1] == "finalize":
                 self.asked = None
 

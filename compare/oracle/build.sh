@@ -31,7 +31,8 @@ done
 
 export CARGO_TARGET_DIR="${CARGO_TARGET_DIR:-$here/target}"
 cd "$here"
-cargo build --offline --jobs 2 --profile checked --bin driver
+cargo build --offline --jobs 2 --profile checked --bin driver --bin differences
 cargo build --offline --jobs 2 --release --bin bench
-echo "the driver:  $CARGO_TARGET_DIR/checked/driver"
-echo "the timings: $CARGO_TARGET_DIR/release/bench"
+echo "the driver:          $CARGO_TARGET_DIR/checked/driver"
+echo "the differences:     $CARGO_TARGET_DIR/checked/differences"
+echo "the timings:         $CARGO_TARGET_DIR/release/bench"

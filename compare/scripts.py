@@ -151,10 +151,10 @@ class Script:
     def not_code(self, order):
         return self.rng.choice([order, order + 1, LAST, self.rng.randrange(order, 2**64)])
 
-    def codes(self, count, order):
-        """So many codes; now and then one of them is none."""
+    def codes(self, count, order, spoiled=0.07):
+        """So many codes; with this chance one of them is none."""
         values = [self.code(order) for _ in range(count)]
-        if values and order <= LAST and self.chance(0.07):
+        if values and order <= LAST and self.chance(spoiled):
             values[self.rng.randrange(count)] = self.not_code(order)
         return values
 
@@ -173,11 +173,9 @@ class Script:
 
     # ---- the calls: each gives a line ----
 
-    def count(self, asked, bytes_each):
+    def count(self, asked):
         """How many numbers to observe."""
         if asked.room:
-            if self.chance(0.15):
-                return self.filling(bytes_each)
             return self.rng.choice([0, 1, 1, 2, 3, 4, 5, 8, 31, 32, 33, self.rng.randrange(80)])
         b = asked.batch
         if b > 100 and self.chance(0.7):
@@ -194,23 +192,27 @@ class Script:
     def numbers(self, name, values):
         return " ".join([name] + [str(value) for value in values])
 
+    def some_codes(self, asked, order, bytes_each):
+        """Codes to observe. Where room is bounded, they are now and then about as many as fit, a bad one among them."""
+        if asked.room and self.chance(0.15):
+            return self.codes(self.filling(bytes_each), order, 0.25)
+        return self.codes(self.count(asked), order)
+
     def observe(self, asked):
-        each = 4 if asked.kind == "serial" else 1
-        return self.numbers("observe", self.codes(self.count(asked, each), asked.taken))
+        return self.numbers("observe", self.some_codes(asked, asked.taken, 4 if asked.kind == "serial" else 1))
 
     def digest(self, asked):
-        if asked.kind == "multi":
-            # Blocks of a digest have words, and not as many as scalars.
-            rate = asked.batch // asked.limbs
-            count = self.rng.choice([0, 1, 2, 3, rate - 1, rate, rate + 1, 2 * rate, 2 * rate + 1, 8, 9, 10, 11])
-        else:
-            count = self.count(asked, 1)
-        return self.numbers("digest", self.codes(count, asked.digested))
+        if asked.kind != "multi":
+            return self.numbers("digest", self.some_codes(asked, asked.digested, 1))
+        # Blocks of a digest have words, and not as many as scalars.
+        rate = asked.batch // asked.limbs
+        counts = [0, 1, 2, 3, rate - 1, rate, rate + 1, 2 * rate, 2 * rate + 1, 8, 9, 10, 11]
+        return self.numbers("digest", self.codes(self.rng.choice(counts), asked.digested))
 
     def digest64(self, asked):
         if asked.kind != "serial":
             return self.numbers("digest64", self.codes(self.rng.randrange(3), 2**64))
-        return self.numbers("digest64", self.codes(min(self.count(asked, 8), 140), 2**64))
+        return self.numbers("digest64", self.some_codes(asked, 2**64, 8))
 
     def sample(self, asked):
         with_limit = asked.kind == "serial"

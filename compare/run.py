@@ -37,18 +37,18 @@ BITS_OR_CODES = {"bits": ["ok", "no 20"], "check": ["ok yes", "ok no", "no 20", 
 WANTED = {
     "duplex": BITS_OR_CODES | {
         "observe": ["ok", "no 23"], "digest": ["ok", "no 23"], "digest64": ["no-call"], "sample": ["ok"],
-        "sample LIMIT": ["no-call"], "uniform": ["ok", "no 20", "no 21", "no 26"],
+        "sample LIMIT": ["bad-line"], "uniform": ["ok", "no 20", "no 21", "no 26"],
         "find": ["ok", "ok none", "no-call"]},
     "multi": BITS_OR_CODES | {
         "observe": ["ok", "no 23"], "digest": ["ok", "no 23"], "digest64": ["no-call"], "sample": ["ok"],
-        "sample LIMIT": ["no-call"], "uniform": ["no-call"], "find": ["no-call"]},
+        "sample LIMIT": ["bad-line"], "uniform": ["no-call"], "find": ["no-call"]},
     "hash": {
         "observe": ["ok", "no 24", "not-bytes"], "digest": ["ok", "no 24", "not-bytes"], "digest64": ["no-call"],
-        "sample": ["ok"], "sample LIMIT": ["no-call"], "bits": ["no-call"], "uniform": ["no-call"],
+        "sample": ["ok"], "sample LIMIT": ["bad-line"], "bits": ["no-call"], "uniform": ["no-call"],
         "check": ["no-call"], "grind": ["no-call"], "find": ["ok", "ok none"], "held": ["held"], "finalize": ["ok"]},
     "serial": BITS_OR_CODES | {
         "observe": ["ok", "no 23", "no 24"], "digest": ["ok", "no 24", "not-bytes"], "digest64": ["ok", "no 24"],
-        "sample": ["no-call"], "sample LIMIT": ["ok", "no 21", "no 26"], "uniform": ["ok", "no 20", "no 21"],
+        "sample": ["bad-line"], "sample LIMIT": ["ok", "no 21", "no 26"], "uniform": ["ok", "no 20", "no 21"],
         "find": ["no-call"]},
 }
 WANTED_MAKES = {"duplex": ["ok", "no 10", "no 14"], "multi": ["ok", "no 10", "no 11", "no 12", "no 13", "no 14"],
@@ -135,7 +135,7 @@ def told_by(answer):
 def counted_as(line, answer, kind):
     """Under what a line is counted that is asked of this kind of challenger."""
     words = line.split(" ")
-    if answer == "bad-line":
+    if answer == "bad-line" and not re.fullmatch(r"sample( \d+)?", line):
         return "bad-line", "", answer
     if words[0] in ("hashof", "helpers"):
         return words[0], "", told_by(answer)

@@ -54,6 +54,11 @@ pub fn no_call() -> Answer {
     Err("no-call".into())
 }
 
+/// A sample with a draw limit where none is taken, or without one where it is.
+pub fn other_sample() -> Answer {
+    Err("bad-line".into())
+}
+
 pub fn numbers<T: Display>(values: &[T], between: &str) -> String {
     let texts: Vec<String> = values.iter().map(T::to_string).collect();
     texts.join(between)

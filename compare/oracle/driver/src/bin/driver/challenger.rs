@@ -7,9 +7,9 @@ use p3_challenger::{CanObserve, GrindingChallenger};
 use p3_field::{Code, PrimeCharacteristicRing};
 use p3_symmetric::Hash;
 
-use crate::answer::{Answer, ask, ask_bits, ask_codes, debug, no_call};
+use crate::answer::{Answer, ask, ask_bits, ask_codes, debug, no_call, other_sample};
 
-/// The calls; where a challenger has none of the name, the answer is no-call.
+/// The calls; where a challenger has none of the name, the answer is no-call. Each has one of the two samples.
 pub trait Challenger {
     fn observe(&mut self, values: &[u64]) -> Answer;
     fn digest(&mut self, values: &[u64]) -> Answer;
@@ -17,10 +17,10 @@ pub trait Challenger {
         no_call()
     }
     fn sample(&mut self) -> Answer {
-        no_call()
+        other_sample()
     }
     fn sample_within(&mut self, _limit: u64) -> Answer {
-        no_call()
+        other_sample()
     }
     fn bits(&mut self, _bits: u64) -> Answer {
         no_call()

@@ -10,7 +10,16 @@ const HELP: &str = "melkwido plays scripts of challenger calls
   melkwido agree [FILE]   the prover's run and the verifier's, side by side
   melkwido help           this text
 
-A script has one call to a line. FILE is its path; - or none is standard input.";
+A script has one call to a line. FILE is its path; - or none is standard input.
+
+  make duplex DOMAIN PERM WIDTH RATE           DOMAIN: bytes babybear koalabear goldilocks
+  make multi SAMPLED SPONGE PERM WIDTH RATE    SAMPLED, SPONGE: domains
+  make serial SAMPLED duplex PERM WIDTH RATE   PERM: mirror ladder:R
+  make serial SAMPLED hash HASHER HEX          HASHER: sha256 sha3-256
+  make hash HASHER HEX                         HEX: two digits a byte, - for none
+  observe N..   digest N..   digest64 N..   sample [LIMIT]   bits B   uniform B LIMIT
+  check B W   grind B BUDGET   find COUNT MASK   held   finalize
+  hashof HASHER HEX   helpers SAMPLED SPONGE   # a comment";
 
 /// The text of a script; where there is none, a message says why.
 fn read_script(rt: &HostRuntime, path: &str) -> io::Result<String> {

@@ -6,6 +6,7 @@ ghost use Rattle.played.specs.declared.dialect.Dialect.{Dialect as DialectT};
 
 mod dialect;
 mod hashes;
+mod making;
 mod named;
 mod request;
 mod serial;
@@ -13,6 +14,9 @@ mod sponges;
 
 pub use dialect::{Dialect, Unfit};
 use interface::Holding;
+pub use making::{
+    ByteDuplex, make_duplex, make_multi, make_serial_duplex, make_serial_sha3, make_serial_sha256,
+};
 pub use named::Permutation;
 pub use request::Request;
 use runs::Challenger;

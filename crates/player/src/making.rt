@@ -1,21 +1,17 @@
 // The parts of a script, and the challengers that they make.
 use domain::{BabyBear, Bytes, Domain, Goldilocks, KoalaBear};
-use duplex::DuplexChallenger;
 use hash_challenger::HashChallenger;
-use multi_field::MultiField32Challenger;
-use played::{Permutation, Played};
+use played::{
+    Played, make_duplex, make_multi, make_serial_duplex, make_serial_sha3, make_serial_sha256,
+};
 use refusal::Refusal;
 use rehearsal::lines::{Numbered, Part};
 use script::{
     DomainName, HashParameters, HasherName, Line, SpongeParameters, begins_make, read_line,
 };
-use serializing::SerializingChallenger32;
 use sha3::Sha3_256;
 use sha256::Sha256;
 use std::alloc::{AllocError, Global};
-
-/// The duplex challenger over bytes.
-type ByteDuplex = DuplexChallenger<Bytes, Permutation, 256>;
 
 /// What is done with the parts of a script.
 pub trait Playing {
@@ -42,65 +38,27 @@ fn begin_or_refuse<C: Played + Copy, P: Playing>(
     }
 }
 
-/// A duplex challenger over a domain; its permutation is made before it.
-fn duplex<D: Domain<ORDER>, const ORDER: u64>(
-    asked: &SpongeParameters,
-) -> Result<DuplexChallenger<D, Permutation, ORDER>, Refusal> {
-    let permutation = Permutation::new(asked.permutation)?;
-    DuplexChallenger::new(asked.width as usize, asked.rate as usize, permutation)
-}
-
-/// A multi-field challenger over a sampled domain and a sponge's; its permutation is made before it.
-fn multi<F: Domain<SAMPLED>, D: Domain<ORDER>, const SAMPLED: u64, const ORDER: u64>(
-    asked: &SpongeParameters,
-) -> Result<MultiField32Challenger<F, D, Permutation, SAMPLED, ORDER>, Refusal> {
-    let permutation = Permutation::new(asked.permutation)?;
-    MultiField32Challenger::new(asked.width as usize, asked.rate as usize, permutation)
-}
-
-// Kept as a function for each transcript: over a type parameter in its place the size of the challenger is not known to fit a memory.
-/// A serializing challenger over a duplex challenger over bytes, which is made before it.
-fn serial_duplex<D: Domain<ORDER>, const ORDER: u64>(
-    asked: &SpongeParameters,
-) -> Result<SerializingChallenger32<D, ByteDuplex, ORDER>, Refusal> {
-    SerializingChallenger32::new(duplex::<Bytes, 256>(asked)?)
-}
-
-/// A serializing challenger over a hash challenger with SHA-256, which is made before it.
-fn serial_sha256<D: Domain<ORDER>, const ORDER: u64>(
-    initial: &[u8],
-) -> Result<SerializingChallenger32<D, HashChallenger<Sha256, 32>, ORDER>, Refusal> {
-    SerializingChallenger32::new(HashChallenger::new(initial, Sha256)?)
-}
-
-/// A serializing challenger over a hash challenger with SHA3-256, which is made before it.
-fn serial_sha3<D: Domain<ORDER>, const ORDER: u64>(
-    initial: &[u8],
-) -> Result<SerializingChallenger32<D, HashChallenger<Sha3_256, 32>, ORDER>, Refusal> {
-    SerializingChallenger32::new(HashChallenger::new(initial, Sha3_256)?)
-}
-
 /// Makes a duplex challenger.
-fn make_duplex<P: Playing>(
+fn begin_duplex<P: Playing>(
     domain: DomainName,
     asked: &SpongeParameters,
     part: &Part<'_>,
     player: &mut P,
 ) -> Result<(), AllocError> {
     match domain {
-        DomainName::Bytes => begin_or_refuse(duplex::<Bytes, 256>(asked), part, player),
+        DomainName::Bytes => begin_or_refuse(make_duplex::<Bytes, 256>(asked), part, player),
         DomainName::BabyBear => begin_or_refuse(
-            duplex::<BabyBear, 2013265921>(asked),
+            make_duplex::<BabyBear, 2013265921>(asked),
             part,
             player,
         ),
         DomainName::KoalaBear => begin_or_refuse(
-            duplex::<KoalaBear, 2130706433>(asked),
+            make_duplex::<KoalaBear, 2130706433>(asked),
             part,
             player,
         ),
         DomainName::Goldilocks => begin_or_refuse(
-            duplex::<Goldilocks, 18446744069414584321>(asked),
+            make_duplex::<Goldilocks, 18446744069414584321>(asked),
             part,
             player,
         ),
@@ -108,26 +66,30 @@ fn make_duplex<P: Playing>(
 }
 
 /// Makes a multi-field challenger over a sampled domain.
-fn make_multi_over<F: Domain<SAMPLED> + Copy, P: Playing, const SAMPLED: u64>(
+fn begin_multi_over<F: Domain<SAMPLED> + Copy, P: Playing, const SAMPLED: u64>(
     domain: DomainName,
     asked: &SpongeParameters,
     part: &Part<'_>,
     player: &mut P,
 ) -> Result<(), AllocError> {
     match domain {
-        DomainName::Bytes => begin_or_refuse(multi::<F, Bytes, SAMPLED, 256>(asked), part, player),
+        DomainName::Bytes => begin_or_refuse(
+            make_multi::<F, Bytes, SAMPLED, 256>(asked),
+            part,
+            player,
+        ),
         DomainName::BabyBear => begin_or_refuse(
-            multi::<F, BabyBear, SAMPLED, 2013265921>(asked),
+            make_multi::<F, BabyBear, SAMPLED, 2013265921>(asked),
             part,
             player,
         ),
         DomainName::KoalaBear => begin_or_refuse(
-            multi::<F, KoalaBear, SAMPLED, 2130706433>(asked),
+            make_multi::<F, KoalaBear, SAMPLED, 2130706433>(asked),
             part,
             player,
         ),
         DomainName::Goldilocks => begin_or_refuse(
-            multi::<F, Goldilocks, SAMPLED, 18446744069414584321>(asked),
+            make_multi::<F, Goldilocks, SAMPLED, 18446744069414584321>(asked),
             part,
             player,
         ),
@@ -135,7 +97,7 @@ fn make_multi_over<F: Domain<SAMPLED> + Copy, P: Playing, const SAMPLED: u64>(
 }
 
 /// Makes a multi-field challenger.
-fn make_multi<P: Playing>(
+fn begin_multi<P: Playing>(
     sampled: DomainName,
     domain: DomainName,
     asked: &SpongeParameters,
@@ -143,21 +105,21 @@ fn make_multi<P: Playing>(
     player: &mut P,
 ) -> Result<(), AllocError> {
     match sampled {
-        DomainName::Bytes => make_multi_over::<Bytes, P, 256>(domain, asked, part, player),
-        DomainName::BabyBear => make_multi_over::<BabyBear, P, 2013265921>(
+        DomainName::Bytes => begin_multi_over::<Bytes, P, 256>(domain, asked, part, player),
+        DomainName::BabyBear => begin_multi_over::<BabyBear, P, 2013265921>(
             domain, asked, part, player,
         ),
-        DomainName::KoalaBear => make_multi_over::<KoalaBear, P, 2130706433>(
+        DomainName::KoalaBear => begin_multi_over::<KoalaBear, P, 2130706433>(
             domain, asked, part, player,
         ),
-        DomainName::Goldilocks => make_multi_over::<Goldilocks, P, 18446744069414584321>(
+        DomainName::Goldilocks => begin_multi_over::<Goldilocks, P, 18446744069414584321>(
             domain, asked, part, player,
         ),
     }
 }
 
 /// Makes a hash challenger.
-fn make_hash<P: Playing>(
+fn begin_hash<P: Playing>(
     asked: &HashParameters,
     part: &Part<'_>,
     player: &mut P,
@@ -174,26 +136,26 @@ fn make_hash<P: Playing>(
 }
 
 /// Makes a serializing challenger over a duplex challenger.
-fn make_serial_duplex<P: Playing>(
+fn begin_serial_duplex<P: Playing>(
     sampled: DomainName,
     asked: &SpongeParameters,
     part: &Part<'_>,
     player: &mut P,
 ) -> Result<(), AllocError> {
     match sampled {
-        DomainName::Bytes => begin_or_refuse(serial_duplex::<Bytes, 256>(asked), part, player),
+        DomainName::Bytes => begin_or_refuse(make_serial_duplex::<Bytes, 256>(asked), part, player),
         DomainName::BabyBear => begin_or_refuse(
-            serial_duplex::<BabyBear, 2013265921>(asked),
+            make_serial_duplex::<BabyBear, 2013265921>(asked),
             part,
             player,
         ),
         DomainName::KoalaBear => begin_or_refuse(
-            serial_duplex::<KoalaBear, 2130706433>(asked),
+            make_serial_duplex::<KoalaBear, 2130706433>(asked),
             part,
             player,
         ),
         DomainName::Goldilocks => begin_or_refuse(
-            serial_duplex::<Goldilocks, 18446744069414584321>(asked),
+            make_serial_duplex::<Goldilocks, 18446744069414584321>(asked),
             part,
             player,
         ),
@@ -201,32 +163,42 @@ fn make_serial_duplex<P: Playing>(
 }
 
 /// Makes a serializing challenger in a sampled domain over a hash challenger.
-fn make_serial_hash_in<D: Domain<ORDER> + Copy, P: Playing, const ORDER: u64>(
+fn begin_serial_hash_in<D: Domain<ORDER> + Copy, P: Playing, const ORDER: u64>(
     asked: &HashParameters,
     part: &Part<'_>,
     player: &mut P,
 ) -> Result<(), AllocError> {
     let initial = asked.bytes.as_slice();
     match asked.hasher {
-        HasherName::Sha256 => begin_or_refuse(serial_sha256::<D, ORDER>(initial), part, player),
-        HasherName::Sha3_256 => begin_or_refuse(serial_sha3::<D, ORDER>(initial), part, player),
+        HasherName::Sha256 => begin_or_refuse(
+            make_serial_sha256::<D, ORDER>(initial),
+            part,
+            player,
+        ),
+        HasherName::Sha3_256 => begin_or_refuse(
+            make_serial_sha3::<D, ORDER>(initial),
+            part,
+            player,
+        ),
     }
 }
 
 /// Makes a serializing challenger over a hash challenger.
-fn make_serial_hash<P: Playing>(
+fn begin_serial_hash<P: Playing>(
     sampled: DomainName,
     asked: &HashParameters,
     part: &Part<'_>,
     player: &mut P,
 ) -> Result<(), AllocError> {
     match sampled {
-        DomainName::Bytes => make_serial_hash_in::<Bytes, P, 256>(asked, part, player),
-        DomainName::BabyBear => make_serial_hash_in::<BabyBear, P, 2013265921>(asked, part, player),
-        DomainName::KoalaBear => make_serial_hash_in::<KoalaBear, P, 2130706433>(
+        DomainName::Bytes => begin_serial_hash_in::<Bytes, P, 256>(asked, part, player),
+        DomainName::BabyBear => begin_serial_hash_in::<BabyBear, P, 2013265921>(
             asked, part, player,
         ),
-        DomainName::Goldilocks => make_serial_hash_in::<Goldilocks, P, 18446744069414584321>(
+        DomainName::KoalaBear => begin_serial_hash_in::<KoalaBear, P, 2130706433>(
+            asked, part, player,
+        ),
+        DomainName::Goldilocks => begin_serial_hash_in::<Goldilocks, P, 18446744069414584321>(
             asked, part, player,
         ),
     }
@@ -246,15 +218,15 @@ fn play_part<P: Playing>(
         lines: rest,
     };
     match read_line(heap, first.text) {
-        Ok(Line::MakeDuplex(domain, asked)) => make_duplex(domain, &asked, &part, player),
-        Ok(Line::MakeMulti(sampled, domain, asked)) => make_multi(
+        Ok(Line::MakeDuplex(domain, asked)) => begin_duplex(domain, &asked, &part, player),
+        Ok(Line::MakeMulti(sampled, domain, asked)) => begin_multi(
             sampled, domain, &asked, &part, player,
         ),
-        Ok(Line::MakeHash(asked)) => make_hash(&asked, &part, player),
-        Ok(Line::MakeSerialDuplex(sampled, asked)) => make_serial_duplex(
+        Ok(Line::MakeHash(asked)) => begin_hash(&asked, &part, player),
+        Ok(Line::MakeSerialDuplex(sampled, asked)) => begin_serial_duplex(
             sampled, &asked, &part, player,
         ),
-        Ok(Line::MakeSerialHash(sampled, asked)) => make_serial_hash(
+        Ok(Line::MakeSerialHash(sampled, asked)) => begin_serial_hash(
             sampled, &asked, &part, player,
         ),
         _ => player.idle(lines),

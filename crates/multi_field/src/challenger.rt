@@ -101,8 +101,7 @@ impl<
         if !all_codes::<ORDER>(words) {
             return Err(Refusal::NotCode);
         }
-        self.sponge.drop_outputs();
-        self.squeeze.clear();
+        self.drop_lists();
         self.settle();
         absorb_words(&mut self.sponge, words);
         Ok(())

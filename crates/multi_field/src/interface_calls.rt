@@ -42,8 +42,7 @@ impl<
 
     #[tactic(auto, unfolding(crate::specs::Rules::taken, crate::specs::Rules::flushed))]
     fn take(&mut self, c: u64) {
-        self.sponge.drop_outputs();
-        self.squeeze.clear();
+        self.drop_lists();
         self.pending.push(c);
         if self.pending.len() == self.numbers.limbs() * self.sponge.rate() {
             flush(&self.numbers, &mut self.sponge, &mut self.pending);

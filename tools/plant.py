@@ -5,8 +5,10 @@
     tools/plant.py --jobs 2 sponge duplex   those of two crates, in two copies
     tools/plant.py --dry                only tells whether each text stands where it should
 
-For each bug it prints: refused (a fact is no longer proved), PASSES (the check still passes: a contract to
-strengthen), or BAD (the text is not there, or the code does not compile). Status 1 if one passes or is bad.
+For each bug it prints: refused (a fact is no longer proved), passes (the check still passes, and the bug stands in a
+class of the list whose name begins with `passes:`), PASSES (it passes elsewhere: a contract to strengthen), STOPPED
+(it stands in such a class, and is refused), or BAD (the text is not there, or the code does not compile).
+Status 1 if an outcome is in capitals.
 """
 
 import argparse
@@ -70,10 +72,11 @@ def checked(copy, bug):
     said = done.stdout + done.stderr
     if "no library was built" in said:
         return "BAD", next(line for line in said.splitlines() if "error" in line)
+    expected = bug.kind.startswith("passes:")
     if done.returncode == 0:
-        return "PASSES", ""
+        return "passes" if expected else "PASSES", ""
     facts = [line for line in said.splitlines() if "not proved that" in line or re.match(r"\./proofs/.*error", line)]
-    return "refused", (facts or [said.splitlines()[-1]])[0].replace("so far: ", "")[:200]
+    return "STOPPED" if expected else "refused", (facts or [said.splitlines()[-1]])[0].replace("so far: ", "")[:200]
 
 
 def copied(folder):
@@ -121,8 +124,9 @@ def main():
     outcomes = run(bugs, given.jobs)
     count = collections.Counter((bug.kind, outcome) for bug, outcome in outcomes)
     for kind in dict.fromkeys(bug.kind for bug, _ in outcomes):
-        print(f"{kind}: {count[kind, 'refused']} refused, {count[kind, 'PASSES']} pass, {count[kind, 'BAD']} bad")
-    sys.exit(any(outcome != "refused" for _, outcome in outcomes))
+        told = ", ".join(f"{n} {outcome}" for (k, outcome), n in sorted(count.items()) if k == kind)
+        print(f"{kind}: {told}")
+    sys.exit(any(outcome.isupper() for _, outcome in outcomes))
 
 
 if __name__ == "__main__":

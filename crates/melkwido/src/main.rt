@@ -1,6 +1,9 @@
 //! The program: plays a script, or shows the prover's and the verifier's run of it.
 #![tactic(auto)]
 
+ghost use Rattle.std.specs.Prelude.{◌≡◌, if◌then◌else◌};
+ghost use Rattle.std.specs.Process.{exit_status};
+
 use std::process::ExitCode;
 use std::{env, fs, io};
 
@@ -33,15 +36,22 @@ fn read_script(rt: &HostRuntime, path: &str) -> io::Result<String> {
     read
 }
 
+/// The status at the end: 0 if every line could be read, else 1.
+fn status(read: bool) -> ExitCode
+    ensures { exit_status result ≡ (if read then 0 else 1) }
+{
+    if read {
+        ExitCode::SUCCESS
+    } else {
+        ExitCode::FAILURE
+    }
+}
+
 /// Prints the answers; fails if a line could not be read.
 fn run(rt: &HostRuntime, path: &str) -> io::Result<ExitCode> {
     let text = read_script(rt, path)?;
     let sheet = player::run(rt.alloc(), text.as_str())?;
-    if sheet.print(rt)? {
-        Ok(ExitCode::SUCCESS)
-    } else {
-        Ok(ExitCode::FAILURE)
-    }
+    Ok(status(sheet.print(rt)?))
 }
 
 /// Prints the tables; fails, with nothing printed, if the script is refused.
@@ -50,11 +60,11 @@ fn agree(rt: &HostRuntime, path: &str) -> io::Result<ExitCode> {
     match player::agree(rt.alloc(), text.as_str()) {
         Ok(table) => {
             rt.print(table.as_str())?;
-            Ok(ExitCode::SUCCESS)
+            Ok(status(true))
         }
         Err(stop) => {
             rt.eprintln(stop)?;
-            Ok(ExitCode::FAILURE)
+            Ok(status(false))
         }
     }
 }

@@ -1,35 +1,31 @@
 -- Challengers made as a line asks. Assumes nothing.
-use Rattle.std.specs.Prelude.{◌≡◌, ℕ, cond, List, length, Some, None, Option, Ok, Err, Result, nat_le}
+use Rattle.std.specs.Prelude.{ℕ, cond, List, length, Some, None, Option, nat_le}
 use Rattle.refusal.specs.declared.Refusal.{Refusal}
 use Rattle.refusal.specs.declared.Refusal.TheVariants.{Shape, SampledOrder, InitialState}
+use Rattle.domain.specs.Arithmetic.{Arithmetic}
+use Rattle.sponge.specs.Sponge.{SpongeMake}
 use Rattle.sponge.specs.SpongeHeld.{shaped}
-use Rattle.sponge.specs.declared.parameters.Parameters.{Parameters}
 use Rattle.multi_field.specs.Holds.{first_no}
 use Rattle.script.specs.declared.SpongeParameters.{SpongeParameters}
-use Rattle.played.specs.declared.named.Permutation.{Permutation}
-use Rattle.played.specs.Permutations.{rounds_of, made}
+use Rattle.played.specs.Permutations.{named_no, named_image}
 
--- the named permutation, WIDTH and RATE
-pub record AsAsked (asked : SpongeParameters) (m : Parameters Permutation) : Type 0 where
-  pub permutation : made asked.permutation ≡ Ok (rounds_of m.permutation)
-  pub width : m.width ≡ asked.width
-  pub rate : m.rate ≡ asked.rate
+-- a sponge of the named permutation, WIDTH and RATE
+abbrev pub asked_sponge : {order : ℕ} → Arithmetic order → SpongeParameters → SpongeMake order
+asked_sponge d asked = record { arithmetic = d; image = named_image d asked.permutation; width = asked.width; rate = asked.rate }
 
--- the first no of the permutation, and else of the challenger over it
-abbrev pub above : Result (Option ℕ) Refusal → Option Refusal → Option Refusal
-above (Err e) rest = Some e
-above (Ok r) rest = rest
+-- what is put together is asked from below: the first no of what is below, and else of what is above
+abbrev pub or_above : Option Refusal → Option Refusal → Option Refusal
+or_above None above = above
+or_above (Some e) above = Some e
 
 abbrev pub duplex_no : SpongeParameters → Option Refusal
-duplex_no asked = above (made asked.permutation) (cond (shaped asked.width asked.rate) None (Some Shape))
+duplex_no asked = or_above (named_no asked.permutation) (cond (shaped asked.width asked.rate) None (Some Shape))
 
 abbrev pub multi_no : ℕ → ℕ → SpongeParameters → Option Refusal
-multi_no sampled order asked = above (made asked.permutation) (first_no sampled order asked.width asked.rate)
+multi_no sampled order asked = or_above (named_no asked.permutation) (first_no sampled order asked.width asked.rate)
 
 abbrev pub hash_no : List ℕ → Option Refusal
 hash_no initial = cond (nat_le (length initial) 1024) None (Some InitialState)
 
--- the first no of the transcript, and else of the serializing challenger over it
 abbrev pub serial_no : ℕ → Option Refusal → Option Refusal
-serial_no order (Some e) = Some e
-serial_no order None = cond (nat_le order 4294967296) None (Some SampledOrder)
+serial_no order below = or_above below (cond (nat_le order 4294967296) None (Some SampledOrder))

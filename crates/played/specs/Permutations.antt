@@ -1,5 +1,5 @@
 -- The permutation that a line names.
-use Rattle.std.specs.Prelude.{ℕ, cond, List, Some, None, Option, Ok, Err, Result, reverse}
+use Rattle.std.specs.Prelude.{ℕ, cond, List, Some, None, Option, reverse}
 use Rattle.refusal.specs.declared.Refusal.{Refusal}
 use Rattle.refusal.specs.declared.Refusal.TheVariants.{Rounds}
 use Rattle.domain.specs.Arithmetic.{Arithmetic}
@@ -12,21 +12,17 @@ use Rattle.script.specs.declared.PermutationName.TheVariants.{Mirror as MirrorNa
 use Rattle.played.specs.declared.named.Permutation.{Permutation}
 use Rattle.played.specs.declared.named.Permutation.TheVariants.{Mirror, Ladder}
 
--- the mirror has no rounds
-abbrev pub rounds_of : Permutation → Option ℕ
-rounds_of (Mirror m) = None
-rounds_of (Ladder l) = Some l.rounds
-
-abbrev pub rounds : Result Permutation Refusal → Result (Option ℕ) Refusal
-rounds (Ok p) = Ok (rounds_of p)
-rounds (Err e) = Err e
-
--- what a name makes
-abbrev pub made : PermutationName → Result (Option ℕ) Refusal
-made MirrorNamed = Ok None
-made (LadderNamed r) = cond (ladder_shaped r) (Ok (Some r)) (Err Rounds)
+-- a ladder is refused if it has other than 1 to 16 rounds
+abbrev pub named_no : PermutationName → Option Refusal
+named_no MirrorNamed = None
+named_no (LadderNamed r) = cond (ladder_shaped r) None (Some Rounds)
 
 module _ {order : ℕ} (d : Arithmetic order) where
+  -- what a name stands for
+  abbrev pub named_image : PermutationName → List ℕ → List ℕ
+  named_image MirrorNamed = reverse
+  named_image (LadderNamed r) = ladder_rounds d r
+
   abbrev pub image : Permutation → List ℕ → List ℕ
   image (Mirror m) = reverse
   image (Ladder l) = ladder_rounds d l.rounds

@@ -1,6 +1,7 @@
 -- The call that a line asks of a challenger. Assumes nothing.
 use Rattle.std.specs.Prelude.{ℕ, Bool, true, false, cond, List, Some, None, Option, Ok, Err, Result}
 use Rattle.std.specs.Option.{option_map}
+use denote.Ref.{Bor}
 use Rattle.domain.specs.Codes.{all_codes}
 use Rattle.runs.specs.declared.call.Call.{Call}
 use Rattle.runs.specs.declared.call.Call.TheVariants.{Observe, ObserveDigest, ObserveBytes, ObserveDigestBytes, ObserveDigestWords, Sample, SampleWithin, SampleBits, UniformBits, CheckWitness, Grind}
@@ -36,23 +37,27 @@ bytes_said to_finalize = None
 bytes_said (to_hash_of k) = None
 bytes_said (to_helpers f d) = None
 
--- what a line says that asks for a call, and whether the call lends bytes
-abbrev pub said_for : Call → Bool × Said
-said_for (Observe xs) = (false, to_observe xs.now)
-said_for (ObserveDigest xs) = (false, to_digest xs.now)
-said_for (ObserveBytes xs) = (true, to_observe xs.now)
-said_for (ObserveDigestBytes xs) = (true, to_digest xs.now)
-said_for (ObserveDigestWords xs) = (false, to_digest64 xs.now)
-said_for Sample = (false, to_sample None)
-said_for (SampleWithin limit) = (false, to_sample (Some limit))
-said_for (SampleBits b) = (false, to_bits b)
-said_for (UniformBits b l) = (false, to_uniform (b, l))
-said_for (CheckWitness b w) = (false, to_check (b, w))
-said_for (Grind b n) = (false, to_grind (b, n))
+-- a list, lent from nowhere
+abbrev pub lent : List ℕ → Bor (List ℕ)
+lent xs = record { ref_ptr = (0, 0); now = xs }
 
-abbrev pub heard : Result (Option Call) Unfit → Result (Option (Bool × Said)) Unfit
-heard (Ok o) = Ok (option_map said_for o)
-heard (Err e) = Err e
+-- the call with its list so lent: a challenger reads what is lent, wherever it lies
+abbrev pub plain : Call → Call
+plain (Observe xs) = Observe (lent xs.now)
+plain (ObserveDigest xs) = ObserveDigest (lent xs.now)
+plain (ObserveBytes xs) = ObserveBytes (lent xs.now)
+plain (ObserveDigestBytes xs) = ObserveDigestBytes (lent xs.now)
+plain (ObserveDigestWords xs) = ObserveDigestWords (lent xs.now)
+plain Sample = Sample
+plain (SampleWithin limit) = SampleWithin limit
+plain (SampleBits b) = SampleBits b
+plain (UniformBits b l) = UniformBits b l
+plain (CheckWitness b w) = CheckWitness b w
+plain (Grind b n) = Grind b n
+
+abbrev pub plainly : Result (Option Call) Unfit → Result (Option Call) Unfit
+plainly (Ok o) = Ok (option_map plain o)
+plainly (Err e) = Err e
 
 -- are bytes taken by observe, and by digest?
 abbrev pub observes_bytes : Dialect → Bool
@@ -65,39 +70,40 @@ digests_bytes Codes = false
 digests_bytes Bytes = true
 digests_bytes Serializing = true
 
--- a call that lends the numbers, or, where bytes are taken, bytes
-abbrev pub lent : (List ℕ → Said) → Option (List ℕ) → Result (Option (Bool × Said)) Unfit
-lent call None = Err NotBytes
-lent call (Some bs) = Ok (Some (true, call bs))
+-- a call that lends the numbers as bytes, if they are
+abbrev pub lending : (Bor (List ℕ) → Call) → Option (List ℕ) → Result (Option Call) Unfit
+lending call None = Err NotBytes
+lending call (Some bs) = Ok (Some (call (lent bs)))
 
-abbrev pub lending : (List ℕ → Said) → Bool → List ℕ → Result (Option (Bool × Said)) Unfit
-lending call bytes xs = cond bytes (lent call (as_bytes xs)) (Ok (Some (false, call xs)))
+-- the call of bytes, where bytes are taken, or that of codes
+abbrev pub taking : Bool → (Bor (List ℕ) → Call) → (Bor (List ℕ) → Call) → List ℕ → Result (Option Call) Unfit
+taking bytes of_bytes of_codes xs = cond bytes (lending of_bytes (as_bytes xs)) (Ok (Some (of_codes (lent xs))))
 
 -- a sample gives a draw limit to a serializing challenger, and to no other
-abbrev pub sampling : Dialect → Option ℕ → Result (Option (Bool × Said)) Unfit
-sampling Codes None = Ok (Some (false, to_sample None))
+abbrev pub sampling : Dialect → Option ℕ → Result (Option Call) Unfit
+sampling Codes None = Ok (Some Sample)
 sampling Codes (Some limit) = Err Limit
-sampling Bytes None = Ok (Some (false, to_sample None))
+sampling Bytes None = Ok (Some Sample)
 sampling Bytes (Some limit) = Err Limit
 sampling Serializing None = Err Limit
-sampling Serializing (Some limit) = Ok (Some (false, to_sample (Some limit)))
+sampling Serializing (Some limit) = Ok (Some (SampleWithin limit))
 
 -- what a line asks for, if it asks for a call, or why it does not fit
-abbrev pub called : Dialect → Said → Result (Option (Bool × Said)) Unfit
+abbrev pub called : Dialect → Said → Result (Option Call) Unfit
 called d to_blank = Ok None
 called d (to_make_duplex e k) = Ok None
 called d (to_make_multi f e k) = Ok None
 called d (to_make_hash k) = Ok None
 called d (to_make_serial_duplex f k) = Ok None
 called d (to_make_serial_hash f k) = Ok None
-called d (to_observe xs) = lending to_observe (observes_bytes d) xs
-called d (to_digest xs) = lending to_digest (digests_bytes d) xs
-called d (to_digest64 xs) = Ok (Some (false, to_digest64 xs))
+called d (to_observe xs) = taking (observes_bytes d) ObserveBytes Observe xs
+called d (to_digest xs) = taking (digests_bytes d) ObserveDigestBytes ObserveDigest xs
+called d (to_digest64 xs) = Ok (Some (ObserveDigestWords (lent xs)))
 called d (to_sample o) = sampling d o
-called d (to_bits b) = Ok (Some (false, to_bits b))
-called d (to_uniform p) = Ok (Some (false, to_uniform p))
-called d (to_check p) = Ok (Some (false, to_check p))
-called d (to_grind p) = Ok (Some (false, to_grind p))
+called d (to_bits b) = Ok (Some (SampleBits b))
+called d (to_uniform p) = Ok (Some (UniformBits p.0 p.1))
+called d (to_check p) = Ok (Some (CheckWitness p.0 p.1))
+called d (to_grind p) = Ok (Some (Grind p.0 p.1))
 called d (to_find p) = Ok None
 called d to_held = Ok None
 called d to_finalize = Ok None

@@ -1,6 +1,6 @@
 -- What is printed of challengers. Assumes nothing.
 use Rattle.std.specs.Prelude.{ℕ, List, codes}
-use Rattle.printing.specs.Spoken.{listed, held_words, squeeze_words, hash_words, hex_words}
+use Rattle.printing.specs.Spoken.{listed, held_words, squeeze_words, hash_words}
 use Rattle.duplex.specs.declared.held.DuplexHeld.{DuplexHeld}
 use Rattle.multi_field.specs.declared.held.MultiHeld.{MultiHeld}
 use Rattle.hash_state.specs.declared.held.HashHeld.{HashHeld}

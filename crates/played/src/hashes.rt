@@ -35,6 +35,7 @@ impl<H: CryptographicHasher<N> + Copy, const N: usize> Played for HashChallenger
 
     ghost found = { λ k h n mask. Some (sought (hash_transcript H.digest H.hashing) h n mask) };
 
+    #[tactic(auto, using(crate::specs::PlainLaw::hash_alike))]
     fn dialect(&self) -> Dialect {
         Dialect::Bytes
     }

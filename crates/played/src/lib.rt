@@ -2,7 +2,9 @@
 #![tactic(auto)]
 
 ghost use Rattle.std.specs.Prelude.{◌≡◌, ℕ, List, IfOk, Option, string_bytes};
+ghost use Rattle.runs.specs.declared.call.Call.{Call as CallT};
 ghost use Rattle.played.specs.declared.dialect.Dialect.{Dialect as DialectT};
+ghost use Rattle.played.specs.Requests.{plain};
 
 mod dialect;
 mod hashes;
@@ -15,7 +17,8 @@ mod sponges;
 pub use dialect::{Dialect, Unfit};
 use interface::Holding;
 pub use making::{
-    ByteDuplex, make_duplex, make_multi, make_serial_duplex, make_serial_sha3, make_serial_sha256,
+    ByteDuplex, make_duplex, make_hash, make_multi, make_serial_duplex, make_serial_sha3,
+    make_serial_sha256,
 };
 pub use named::Permutation;
 pub use request::Request;
@@ -47,9 +50,10 @@ pub trait Played: Challenger + Shown {
     // What `find` gives, if it has that call.
     ghost found: { Self.Make → Self.Held → ℕ → ℕ → Option (Option ℕ) };
 
-    /// What the numbers of its lines are.
+    /// What the numbers of its lines are. A call means the same wherever the list lies that it lends.
     fn dialect(&self) -> Dialect
-        ensures { result ≡ speaks };
+        ensures value { result ≡ speaks }
+        ensures lent { (h : Self.Held) (c : CallT) → Self.rule (Self.make self.now) h c ≡ Self.rule (Self.make self.now) h (plain c) };
 
     /// The least candidate, or none; None if it has no such call.
     fn find(&self, candidates: u64, mask: u64) -> Option<Option<u64>>

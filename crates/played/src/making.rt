@@ -1,17 +1,19 @@
 // Challengers made as a line asks.
 ghost use Rattle.std.specs.Prelude.{◌≡◌, Some, None, MatchResult};
-ghost use Rattle.duplex.specs.Holds.{held as duplex_held, make as duplex_make, making as duplex_making};
+ghost use Rattle.domain.specs.Modular.{bytes};
+ghost use Rattle.duplex.specs.Holds.{held as duplex_held, making as duplex_making};
 ghost use Rattle.duplex.specs.Rules.{fresh as duplex_fresh};
-ghost use Rattle.multi_field.specs.Holds.{held as multi_held, make as multi_make, making as multi_making};
+ghost use Rattle.multi_field.specs.Holds.{held as multi_held, making as multi_making};
 ghost use Rattle.multi_field.specs.Rules.{fresh as multi_fresh};
 ghost use Rattle.hash_challenger.specs.Holds.{held as hash_held};
 ghost use Rattle.hash_state.specs.Rules.{fresh as hash_fresh};
-ghost use Rattle.played.specs.Makes.{AsAsked, duplex_no, multi_no, hash_no, serial_no};
+ghost use Rattle.played.specs.Makes.{asked_sponge, duplex_no, multi_no, hash_no, serial_no};
 
 use crate::Permutation;
 use domain::{Bytes, Domain};
 use duplex::DuplexChallenger;
 use hash_challenger::HashChallenger;
+use hasher::CryptographicHasher;
 use multi_field::MultiField32Challenger;
 use refusal::Refusal;
 use script::SpongeParameters;
@@ -26,7 +28,7 @@ pub type ByteDuplex = DuplexChallenger<Bytes, Permutation, 256>;
 pub fn make_duplex<D: Domain<ORDER>, const ORDER: u64>(
     asked: &SpongeParameters,
 ) -> Result<DuplexChallenger<D, Permutation, ORDER>, Refusal>
-    ensures { MatchResult result (λ s. (duplex_no asked.now ≡ None) × AsAsked asked.now (duplex_make s) × (duplex_held s ≡ duplex_fresh (duplex_making s))) (λ e. duplex_no asked.now ≡ Some e) }
+    ensures { MatchResult result (λ s. (duplex_no asked.now ≡ None) × (duplex_making s ≡ asked_sponge D.arithmetic asked.now) × (duplex_held s ≡ duplex_fresh (asked_sponge D.arithmetic asked.now))) (λ e. duplex_no asked.now ≡ Some e) }
 {
     let permutation = Permutation::new(asked.permutation)?;
     DuplexChallenger::new(asked.width as usize, asked.rate as usize, permutation)
@@ -36,10 +38,20 @@ pub fn make_duplex<D: Domain<ORDER>, const ORDER: u64>(
 pub fn make_multi<F: Domain<SAMPLED>, D: Domain<ORDER>, const SAMPLED: u64, const ORDER: u64>(
     asked: &SpongeParameters,
 ) -> Result<MultiField32Challenger<F, D, Permutation, SAMPLED, ORDER>, Refusal>
-    ensures { MatchResult result (λ s. (multi_no SAMPLED ORDER asked.now ≡ None) × AsAsked asked.now (multi_make s) × (multi_held s ≡ multi_fresh SAMPLED (multi_making s))) (λ e. multi_no SAMPLED ORDER asked.now ≡ Some e) }
+    ensures { MatchResult result (λ s. (multi_no SAMPLED ORDER asked.now ≡ None) × (multi_making s ≡ asked_sponge D.arithmetic asked.now) × (multi_held s ≡ multi_fresh SAMPLED (asked_sponge D.arithmetic asked.now))) (λ e. multi_no SAMPLED ORDER asked.now ≡ Some e) }
 {
     let permutation = Permutation::new(asked.permutation)?;
     MultiField32Challenger::new(asked.width as usize, asked.rate as usize, permutation)
+}
+
+/// A hash challenger.
+pub fn make_hash<H: CryptographicHasher<N> + Drop, const N: usize>(
+    initial: &[u8],
+    hasher: H,
+) -> Result<HashChallenger<H, N>, Refusal>
+    ensures { MatchResult result (λ s. (hash_no initial.now ≡ None) × (hash_held s ≡ hash_fresh initial.now)) (λ e. hash_no initial.now ≡ Some e) }
+{
+    HashChallenger::new(initial, hasher)
 }
 
 // Kept as a function for each transcript: over a type parameter in its place the size of the challenger is not known to fit a memory.
@@ -47,7 +59,7 @@ pub fn make_multi<F: Domain<SAMPLED>, D: Domain<ORDER>, const SAMPLED: u64, cons
 pub fn make_serial_duplex<D: Domain<ORDER>, const ORDER: u64>(
     asked: &SpongeParameters,
 ) -> Result<SerializingChallenger32<D, ByteDuplex, ORDER>, Refusal>
-    ensures { MatchResult result (λ s. (serial_no ORDER (duplex_no asked.now) ≡ None) × AsAsked asked.now (duplex_make s.inner) × (duplex_held s.inner ≡ duplex_fresh (duplex_making s.inner))) (λ e. serial_no ORDER (duplex_no asked.now) ≡ Some e) }
+    ensures { MatchResult result (λ s. (serial_no ORDER (duplex_no asked.now) ≡ None) × (duplex_making s.inner ≡ asked_sponge bytes asked.now) × (duplex_held s.inner ≡ duplex_fresh (asked_sponge bytes asked.now))) (λ e. serial_no ORDER (duplex_no asked.now) ≡ Some e) }
 {
     SerializingChallenger32::new(make_duplex::<Bytes, 256>(asked)?)
 }
@@ -58,7 +70,7 @@ pub fn make_serial_sha256<D: Domain<ORDER>, const ORDER: u64>(
 ) -> Result<SerializingChallenger32<D, HashChallenger<Sha256, 32>, ORDER>, Refusal>
     ensures { MatchResult result (λ s. (serial_no ORDER (hash_no initial.now) ≡ None) × (hash_held s.inner ≡ hash_fresh initial.now)) (λ e. serial_no ORDER (hash_no initial.now) ≡ Some e) }
 {
-    SerializingChallenger32::new(HashChallenger::new(initial, Sha256)?)
+    SerializingChallenger32::new(make_hash(initial, Sha256)?)
 }
 
 /// A serializing challenger over a hash challenger with SHA3-256, which is made before it.
@@ -67,5 +79,5 @@ pub fn make_serial_sha3<D: Domain<ORDER>, const ORDER: u64>(
 ) -> Result<SerializingChallenger32<D, HashChallenger<Sha3_256, 32>, ORDER>, Refusal>
     ensures { MatchResult result (λ s. (serial_no ORDER (hash_no initial.now) ≡ None) × (hash_held s.inner ≡ hash_fresh initial.now)) (λ e. serial_no ORDER (hash_no initial.now) ≡ Some e) }
 {
-    SerializingChallenger32::new(HashChallenger::new(initial, Sha3_256)?)
+    SerializingChallenger32::new(make_hash(initial, Sha3_256)?)
 }

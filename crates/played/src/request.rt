@@ -3,7 +3,7 @@ ghost use Rattle.std.specs.Prelude.{◌≡◌, Some, None, IfOk, MatchResult, ve
 ghost use Rattle.std.specs.Option.{option_map};
 ghost use Rattle.played.specs.declared.dialect.Unfit.TheVariants.{NotBytes};
 ghost use Rattle.script.specs.Meaning.{meaning};
-ghost use Rattle.played.specs.Requests.{as_bytes, bytes_said, called, heard, sampling};
+ghost use Rattle.played.specs.Requests.{as_bytes, bytes_said, called, plainly, sampling};
 
 use crate::{Dialect, Unfit};
 use domain::all_codes;
@@ -36,7 +36,7 @@ fn as_bytes(heap: Global, numbers: &[u64]) -> Result<Option<Vec<u8>>, AllocError
 
 /// A sample, with a draw limit where one is taken.
 fn sample(dialect: Dialect, limit: Option<u64>) -> Result<Option<Call<'static>>, Unfit>
-    ensures { heard result ≡ sampling dialect limit }
+    ensures { plainly result ≡ sampling dialect limit }
 {
     match (dialect, limit) {
         (Dialect::Serializing, Some(limit)) => Ok(Some(Call::SampleWithin(limit))),
@@ -69,7 +69,7 @@ impl Request {
 
     /// The call that the line asks for, if any.
     pub fn call(&self, dialect: Dialect) -> Result<Option<Call<'_>>, Unfit>
-        ensures { heard result ≡ called dialect (meaning self.now.line) }
+        ensures { plainly result ≡ called dialect (meaning self.now.line) }
     {
         Ok(Some(match &self.line {
             Line::Observe(codes) => match dialect {

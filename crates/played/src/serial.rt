@@ -29,6 +29,7 @@ impl<D: Domain<ORDER> + Copy, T: ByteGrindingChallenger + Shown + Copy, const OR
 
     ghost found = { λ k h n mask. None };
 
+    #[tactic(auto, using(crate::specs::PlainLaw::serial_alike))]
     fn dialect(&self) -> Dialect {
         Dialect::Serializing
     }

@@ -48,6 +48,7 @@ impl Played for DuplexChallenger<Bytes, Permutation, 256> {
 
     ghost found = { λ m h n mask. Some (sought (byte_transcript (of_make ⟦<Bytes as Domain<256>>⟧.arithmetic (image_of ⟦<Bytes as Domain<256>>⟧.arithmetic) m)) h n mask) };
 
+    #[tactic(auto, using(crate::specs::PlainLaw::duplex_alike))]
     fn dialect(&self) -> Dialect {
         Dialect::Codes
     }
@@ -62,6 +63,7 @@ impl Played for DuplexChallenger<BabyBear, Permutation, 2013265921> {
 
     ghost found = { λ m h n mask. None };
 
+    #[tactic(auto, using(crate::specs::PlainLaw::duplex_alike))]
     fn dialect(&self) -> Dialect {
         Dialect::Codes
     }
@@ -76,6 +78,7 @@ impl Played for DuplexChallenger<KoalaBear, Permutation, 2130706433> {
 
     ghost found = { λ m h n mask. None };
 
+    #[tactic(auto, using(crate::specs::PlainLaw::duplex_alike))]
     fn dialect(&self) -> Dialect {
         Dialect::Codes
     }
@@ -90,6 +93,7 @@ impl Played for DuplexChallenger<Goldilocks, Permutation, 18446744069414584321> 
 
     ghost found = { λ m h n mask. None };
 
+    #[tactic(auto, using(crate::specs::PlainLaw::duplex_alike))]
     fn dialect(&self) -> Dialect {
         Dialect::Codes
     }
@@ -137,6 +141,7 @@ impl<
 
     ghost found = { λ m h n mask. None };
 
+    #[tactic(auto, using(crate::specs::PlainLaw::multi_alike))]
     fn dialect(&self) -> Dialect {
         Dialect::Codes
     }

@@ -1,4 +1,2 @@
 pub mod Admitted
 pub mod Spoken
-pub mod Hashes
-pub mod Helpers

@@ -1,16 +1,15 @@
 // The prover's and the verifier's run of a script, side by side.
-ghost use Rattle.std.specs.Prelude.{◌≡◌, ℕ, List, IfOk, IsTrue, All};
+ghost use Rattle.std.specs.Prelude.{◌≡◌, ℕ, List, IfOk, IsTrue, All, string_bytes};
 ghost use Rattle.rehearsal.specs.Lines.{numbered_lines};
 ghost use Rattle.rehearsal.specs.declared.lines.Numbered.{Numbered};
 ghost use Rattle.player.specs.declared.agreement.Stop.TheVariants.{Memory};
 ghost use Rattle.player.specs.Admitted.{readable};
+ghost use Rattle.parts.specs.Scripts.{tables, script};
 ghost use Rattle.player.specs.Spoken.{stop_words};
 
-use crate::making::{Playing, play_parts};
-use played::Played;
-use refusal::Refusal;
+use parts::play_parts;
 use rehearsal::Table;
-use rehearsal::lines::{Numbered, Part, split_lines};
+use rehearsal::lines::{Numbered, split_lines};
 use script::{Fault, read_line};
 use std::alloc::{AllocError, Global};
 use std::fmt;
@@ -53,23 +52,10 @@ fn admit<'a>(heap: Global, lines: &[Numbered<'a>]) -> Result<(), Stop<'a>>
     Ok(())
 }
 
-impl Playing for Table {
-    fn begin<C: Played + Copy>(&mut self, fresh: C, part: &Part<'_>) -> Result<(), AllocError> {
-        self.rehearse(fresh, part)
-    }
-
-    fn refuse(&mut self, refusal: &Refusal, part: &Part<'_>) -> Result<(), AllocError> {
-        self.refused(refusal, part)
-    }
-
-    fn idle(&mut self, lines: &[Numbered<'_>]) -> Result<(), AllocError> {
-        self.unmade(lines)
-    }
-}
-
 /// The prover's and the verifier's run of a script, as tables.
 pub fn agree<'a>(heap: Global, text: &'a str) -> Result<String, Stop<'a>>
-    ensures { IfOk result (λ _. All (λ (p : ℕ × List ℕ). IsTrue (readable p.1)) (numbered_lines text.entry.now)) }
+    ensures readable { IfOk result (λ _. All (λ (p : ℕ × List ℕ). IsTrue (readable p.1)) (numbered_lines text.entry.now)) }
+    ensures table { IfOk result (λ table. string_bytes table ≡ script tables (numbered_lines text.entry.now)) }
 {
     let lines = split_lines(heap, text)?;
     admit(heap, lines.as_slice())?;

@@ -1,6 +1,6 @@
 // The numbers of a pair of domains.
 ghost use Rattle.std.specs.Prelude.{◌≡◌, ◌≤◌};
-ghost use Rattle.player.specs.Helpers.{order_of, pair_numbers};
+ghost use Rattle.parts.specs.Helpers.{order_of, pair_numbers};
 
 use bits::code_bits;
 use packing::{greatest_power, limbs};

@@ -3,7 +3,6 @@
 
 mod agreement;
 mod helpers;
-mod making;
 mod playing;
 
 pub use agreement::{Stop, agree};

@@ -1,4 +1,4 @@
-use Rattle.std.proofs.Common.{◌≡◌, ℕ, ◌%◌, List, Some, rules, tests, true, ap, ◌∙◌, sym, subst, map, vec_items, IfOk}
+use Rattle.std.proofs.Common.{◌≡◌, ◌%◌, Some, rules, tests, true, ap, ◌∙◌, subst, map, vec_items, IfOk}
 use Rattle.std.proofs.lemmas.Iterator.{YieldsList-from_map_by, YieldsList-from_slice, items_from_collect}
 use Rattle.domain.specs.Codes.{all_codes}
 use Rattle.played.proofs.Remainders.{all_same}

@@ -1,0 +1,2 @@
+pub mod FirstPart
+pub mod Telling

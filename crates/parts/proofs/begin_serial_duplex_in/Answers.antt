@@ -1,0 +1,17 @@
+use Rattle.domain.specs.Modular.{bytes}
+use Rattle.duplex.specs.Bytes.{byte_transcript}
+use Rattle.duplex.specs.Holds.{held, making}
+use Rattle.duplex.specs.Rules.{fresh}
+use Rattle.played.specs.Voices.{duplex_voice, searching, serial_voice}
+use Rattle.played.specs.Makes.{asked_sponge, duplex_no, serial_no}
+use Rattle.parts.specs.Scripts.{serial_duplex_made_over}
+use Rattle.parts.proofs.Telling.{told_is, written_of}
+use Rattle.parts.proofs.begin_serial_duplex_in.Goals as goal
+
+pub returns : goal.returns
+unfolding serial_duplex_made_over
+returns g c =
+    let k = asked_sponge bytes c.args.asked.now in
+    written_of _ _ _ _ _ _ (serial_duplex_made_over g.row.ORDER c.args.asked.now)
+    (told_is (λ k. serial_voice g.row.ORDER (byte_transcript k) (duplex_voice (searching (byte_transcript k)) k)) (λ s. making s.inner) (λ s. held s.inner) (serial_no g.row.ORDER (duplex_no c.args.asked.now)) k (fresh k) c.make_serial_duplex.result c.make_serial_duplex.ensures)
+    c.begin_or_refuse.ensures

@@ -1,0 +1,4 @@
+pub mod Hashes
+pub mod Helpers
+pub mod Sheets
+pub mod Scripts

@@ -1,0 +1,282 @@
+//! The parts of a script, and the challengers that they make.
+#![tactic(auto)]
+
+ghost use Rattle.std.specs.Prelude.{◌≡◌, ℕ, List, ◌++◌, IfOk};
+ghost use Rattle.script.specs.Meaning.{hash_parameters};
+ghost use Rattle.script.specs.Grammar.{said_by};
+ghost use Rattle.played.specs.Voices.{voice};
+ghost use Rattle.rehearsal.specs.Lines.{lines_of, part_of};
+ghost use Rattle.parts.specs.Scripts.{Way as WayT, made_as, told, begun_part, refused_part, idle_part, made_part, duplex_made, multi_made_over, multi_made, hash_made, serial_duplex_made_over, serial_duplex_made, serial_hash_made_over, serial_hash_made, read_part, script as script_of};
+
+use domain::{BabyBear, Bytes, Domain, Goldilocks, KoalaBear};
+use played::{
+    Played, make_duplex, make_hash, make_multi, make_serial_duplex, make_serial_sha3,
+    make_serial_sha256,
+};
+use refusal::Refusal;
+use rehearsal::lines::{Mark, Numbered, Part, split_before};
+use script::{DomainName, Fault, HashParameters, HasherName, Line, SpongeParameters, read_line};
+use sha3::Sha3_256;
+use sha256::Sha256;
+use std::alloc::{AllocError, Global};
+
+mod tables;
+
+/// What is done with the parts of a script.
+pub trait Playing {
+    // Which of the two ways it is.
+    ghost way: { WayT };
+
+    // What was written.
+    ghost text: { Self → List ℕ };
+
+    /// Goes on with the challenger that a part made.
+    fn begin<C: Played + Copy>(&mut self, fresh: C, part: &Part<'_>) -> Result<(), AllocError>
+        ensures { IfOk result (λ _. text self.new ≡ text self.old ++ begun_part way (made_as (voice C.rule C.shown C.ending C.speaks C.found (C.make fresh)) (C.held fresh)) (part_of part.now)) };
+
+    /// Goes on after a make that was refused.
+    fn refuse(&mut self, refusal: &Refusal, part: &Part<'_>) -> Result<(), AllocError>
+        ensures { IfOk result (λ _. text self.new ≡ text self.old ++ refused_part way refusal.now (part_of part.now)) };
+
+    /// Goes on where no challenger was asked for.
+    fn idle(&mut self, part: &Part<'_>) -> Result<(), AllocError>
+        ensures { IfOk result (λ _. text self.new ≡ text self.old ++ idle_part way (part_of part.now)) };
+}
+
+// Kept as two parameters, here and below: a part is what is read, a player what is written.
+/// Goes on with a challenger, or after its refusal.
+fn begin_or_refuse<C: Played + Copy, P: Playing>(
+    made: Result<C, Refusal>,
+    part: &Part<'_>,
+    player: &mut P,
+) -> Result<(), AllocError>
+    ensures { IfOk result (λ _. P.text player.new ≡ P.text player.old ++ made_part P.way (told (λ c. voice C.rule C.shown C.ending C.speaks C.found (C.make c)) C.held made) (part_of part.now)) }
+{
+    match made {
+        Ok(fresh) => player.begin(fresh, part),
+        Err(refusal) => player.refuse(&refusal, part),
+    }
+}
+
+/// Makes a duplex challenger.
+fn begin_duplex<P: Playing>(
+    domain: DomainName,
+    asked: &SpongeParameters,
+    part: &Part<'_>,
+    player: &mut P,
+) -> Result<(), AllocError>
+    ensures { IfOk result (λ _. P.text player.new ≡ P.text player.old ++ made_part P.way (duplex_made domain asked.now) (part_of part.now)) }
+{
+    match domain {
+        DomainName::Bytes => begin_or_refuse(make_duplex::<Bytes, 256>(asked), part, player),
+        DomainName::BabyBear => begin_or_refuse(
+            make_duplex::<BabyBear, 2013265921>(asked),
+            part,
+            player,
+        ),
+        DomainName::KoalaBear => begin_or_refuse(
+            make_duplex::<KoalaBear, 2130706433>(asked),
+            part,
+            player,
+        ),
+        DomainName::Goldilocks => begin_or_refuse(
+            make_duplex::<Goldilocks, 18446744069414584321>(asked),
+            part,
+            player,
+        ),
+    }
+}
+
+/// Makes a multi-field challenger over a sampled domain.
+fn begin_multi_over<F: Domain<SAMPLED> + Copy, P: Playing, const SAMPLED: u64>(
+    domain: DomainName,
+    asked: &SpongeParameters,
+    part: &Part<'_>,
+    player: &mut P,
+) -> Result<(), AllocError>
+    ensures { IfOk result (λ _. P.text player.new ≡ P.text player.old ++ made_part P.way (multi_made_over SAMPLED domain asked.now) (part_of part.now)) }
+{
+    match domain {
+        DomainName::Bytes => begin_or_refuse(
+            make_multi::<F, Bytes, SAMPLED, 256>(asked),
+            part,
+            player,
+        ),
+        DomainName::BabyBear => begin_or_refuse(
+            make_multi::<F, BabyBear, SAMPLED, 2013265921>(asked),
+            part,
+            player,
+        ),
+        DomainName::KoalaBear => begin_or_refuse(
+            make_multi::<F, KoalaBear, SAMPLED, 2130706433>(asked),
+            part,
+            player,
+        ),
+        DomainName::Goldilocks => begin_or_refuse(
+            make_multi::<F, Goldilocks, SAMPLED, 18446744069414584321>(asked),
+            part,
+            player,
+        ),
+    }
+}
+
+/// Makes a multi-field challenger.
+fn begin_multi<P: Playing>(
+    sampled: DomainName,
+    domain: DomainName,
+    asked: &SpongeParameters,
+    part: &Part<'_>,
+    player: &mut P,
+) -> Result<(), AllocError>
+    ensures { IfOk result (λ _. P.text player.new ≡ P.text player.old ++ made_part P.way (multi_made sampled domain asked.now) (part_of part.now)) }
+{
+    match sampled {
+        DomainName::Bytes => begin_multi_over::<Bytes, P, 256>(domain, asked, part, player),
+        DomainName::BabyBear => begin_multi_over::<BabyBear, P, 2013265921>(
+            domain, asked, part, player,
+        ),
+        DomainName::KoalaBear => begin_multi_over::<KoalaBear, P, 2130706433>(
+            domain, asked, part, player,
+        ),
+        DomainName::Goldilocks => begin_multi_over::<Goldilocks, P, 18446744069414584321>(
+            domain, asked, part, player,
+        ),
+    }
+}
+
+/// Makes a hash challenger.
+fn begin_hash<P: Playing>(
+    asked: &HashParameters,
+    part: &Part<'_>,
+    player: &mut P,
+) -> Result<(), AllocError>
+    ensures { IfOk result (λ _. P.text player.new ≡ P.text player.old ++ made_part P.way (hash_made (hash_parameters asked.now)) (part_of part.now)) }
+{
+    let initial = asked.bytes.as_slice();
+    match asked.hasher {
+        HasherName::Sha256 => begin_or_refuse(make_hash(initial, Sha256), part, player),
+        HasherName::Sha3_256 => begin_or_refuse(make_hash(initial, Sha3_256), part, player),
+    }
+}
+
+/// Makes a serializing challenger in a sampled domain over a duplex challenger.
+fn begin_serial_duplex_in<D: Domain<ORDER> + Copy, P: Playing, const ORDER: u64>(
+    asked: &SpongeParameters,
+    part: &Part<'_>,
+    player: &mut P,
+) -> Result<(), AllocError>
+    ensures { IfOk result (λ _. P.text player.new ≡ P.text player.old ++ made_part P.way (serial_duplex_made_over ORDER asked.now) (part_of part.now)) }
+{
+    begin_or_refuse(make_serial_duplex::<D, ORDER>(asked), part, player)
+}
+
+/// Makes a serializing challenger over a duplex challenger.
+fn begin_serial_duplex<P: Playing>(
+    sampled: DomainName,
+    asked: &SpongeParameters,
+    part: &Part<'_>,
+    player: &mut P,
+) -> Result<(), AllocError>
+    ensures { IfOk result (λ _. P.text player.new ≡ P.text player.old ++ made_part P.way (serial_duplex_made sampled asked.now) (part_of part.now)) }
+{
+    match sampled {
+        DomainName::Bytes => begin_serial_duplex_in::<Bytes, P, 256>(asked, part, player),
+        DomainName::BabyBear => begin_serial_duplex_in::<BabyBear, P, 2013265921>(
+            asked, part, player,
+        ),
+        DomainName::KoalaBear => begin_serial_duplex_in::<KoalaBear, P, 2130706433>(
+            asked, part, player,
+        ),
+        DomainName::Goldilocks => begin_serial_duplex_in::<Goldilocks, P, 18446744069414584321>(
+            asked, part, player,
+        ),
+    }
+}
+
+/// Makes a serializing challenger in a sampled domain over a hash challenger.
+fn begin_serial_hash_in<D: Domain<ORDER> + Copy, P: Playing, const ORDER: u64>(
+    asked: &HashParameters,
+    part: &Part<'_>,
+    player: &mut P,
+) -> Result<(), AllocError>
+    ensures { IfOk result (λ _. P.text player.new ≡ P.text player.old ++ made_part P.way (serial_hash_made_over ORDER (hash_parameters asked.now)) (part_of part.now)) }
+{
+    let initial = asked.bytes.as_slice();
+    match asked.hasher {
+        HasherName::Sha256 => begin_or_refuse(
+            make_serial_sha256::<D, ORDER>(initial),
+            part,
+            player,
+        ),
+        HasherName::Sha3_256 => begin_or_refuse(
+            make_serial_sha3::<D, ORDER>(initial),
+            part,
+            player,
+        ),
+    }
+}
+
+/// Makes a serializing challenger over a hash challenger.
+fn begin_serial_hash<P: Playing>(
+    sampled: DomainName,
+    asked: &HashParameters,
+    part: &Part<'_>,
+    player: &mut P,
+) -> Result<(), AllocError>
+    ensures { IfOk result (λ _. P.text player.new ≡ P.text player.old ++ made_part P.way (serial_hash_made sampled (hash_parameters asked.now)) (part_of part.now)) }
+{
+    match sampled {
+        DomainName::Bytes => begin_serial_hash_in::<Bytes, P, 256>(asked, part, player),
+        DomainName::BabyBear => begin_serial_hash_in::<BabyBear, P, 2013265921>(
+            asked, part, player,
+        ),
+        DomainName::KoalaBear => begin_serial_hash_in::<KoalaBear, P, 2130706433>(
+            asked, part, player,
+        ),
+        DomainName::Goldilocks => begin_serial_hash_in::<Goldilocks, P, 18446744069414584321>(
+            asked, part, player,
+        ),
+    }
+}
+
+/// Plays a part.
+fn play_part<P: Playing>(heap: Global, part: &Part<'_>, player: &mut P) -> Result<(), AllocError>
+    ensures { IfOk result (λ _. P.text player.new ≡ P.text player.old ++ read_part P.way (part_of part.now) (said_by part.now.make.text.now)) }
+{
+    match read_line(heap, part.make.text) {
+        Ok(Line::MakeDuplex(domain, asked)) => begin_duplex(domain, &asked, part, player),
+        Ok(Line::MakeMulti(sampled, domain, asked)) => begin_multi(
+            sampled, domain, &asked, part, player,
+        ),
+        Ok(Line::MakeHash(asked)) => begin_hash(&asked, part, player),
+        Ok(Line::MakeSerialDuplex(sampled, asked)) => begin_serial_duplex(
+            sampled, &asked, part, player,
+        ),
+        Ok(Line::MakeSerialHash(sampled, asked)) => begin_serial_hash(
+            sampled, &asked, part, player,
+        ),
+        Err(Fault::Memory) => Err(AllocError),
+        _ => player.idle(part),
+    }
+}
+
+/// Plays the lines of a script: a part begins at each line that begins with `make`, and the first at the first line.
+pub fn play_parts<P: Playing>(
+    heap: Global,
+    lines: &[Numbered<'_>],
+    player: &mut P,
+) -> Result<(), AllocError>
+    ensures { IfOk result (λ _. P.text player.new ≡ P.text player.old ++ script_of P.way (lines_of lines.now)) }
+{
+    let mut at = 0;
+    while let Some((make, behind)) = lines[at..].split_first() {
+        let (inside, _) = split_before(Mark::Make, behind);
+        let part = Part {
+            make: *make,
+            lines: inside,
+        };
+        play_part(heap, &part, player)?;
+        at += 1 + inside.len();
+    }
+    Ok(())
+}

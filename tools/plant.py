@@ -4,6 +4,7 @@
     tools/plant.py                      all bugs of tools/planted.txt, one after another
     tools/plant.py --jobs 2 sponge duplex   those of two crates, in two copies
     tools/plant.py --dry                only tells whether each text stands where it should
+    tools/plant.py --list FILE          those of another list
 
 For each bug it prints: refused (a fact is no longer proved), passes (the check still passes, and the bug stands in a
 class of the list whose name begins with `passes:`), PASSES (it passes elsewhere: a contract to strengthen), STOPPED
@@ -114,8 +115,9 @@ def main():
     parser.add_argument("crates", nargs="*")
     parser.add_argument("--jobs", type=int, default=1)
     parser.add_argument("--dry", action="store_true")
+    parser.add_argument("--list", type=pathlib.Path, default=TOP / "tools/planted.txt")
     given = parser.parse_args()
-    bugs = [bug for bug in bugs_of((TOP / "tools/planted.txt").read_text()) if not given.crates or bug.crate in given.crates]
+    bugs = [bug for bug in bugs_of(given.list.read_text()) if not given.crates or bug.crate in given.crates]
     if given.dry:
         bad = [bug for bug in bugs if planted(bug, (TOP / "crates" / bug.crate / bug.file).read_text()) is None]
         for bug in bad:

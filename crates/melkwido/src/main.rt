@@ -36,7 +36,7 @@ fn read_script(rt: &HostRuntime, path: &str) -> io::Result<String> {
     read
 }
 
-/// The status at the end: 0 if every line could be read, else 1.
+/// The status at the end: 0 if every line was read, else 1.
 fn status(read: bool) -> ExitCode
     ensures { exit_status result ≡ (if read then 0 else 1) }
 {
@@ -47,7 +47,7 @@ fn status(read: bool) -> ExitCode
     }
 }
 
-/// Prints the answers; fails if a line could not be read.
+/// Prints the answers; fails if one of them is `bad-line`.
 fn run(rt: &HostRuntime, path: &str) -> io::Result<ExitCode> {
     let text = read_script(rt, path)?;
     let sheet = player::run(rt.alloc(), text.as_str())?;

@@ -1,5 +1,5 @@
 // The play of a script, line by line.
-ghost use Rattle.std.specs.Prelude.{◌≡◌, ◌↔◌, ◌++◌, codes, IfOk, IsTrue, string_len, string_bytes, vec_items};
+ghost use Rattle.std.specs.Prelude.{◌≡◌, ◌++◌, not, codes, IfOk, string_bytes};
 ghost use Rattle.interface.specs.Meaning.{Reply};
 ghost use Rattle.script.specs.Meaning.{meaning, hash_parameters};
 ghost use Rattle.script.specs.Grammar.{said_by};
@@ -9,6 +9,7 @@ ghost use Rattle.played.specs.Kinds.{kind_of};
 ghost use Rattle.played.specs.Voices.{voice};
 ghost use Rattle.rehearsal.specs.Lines.{line_of, lines_of, numbered_lines, played};
 ghost use Rattle.rehearsal.specs.Tables.{ended};
+ghost use Rattle.player.specs.Admitted.{tells_bad_line};
 ghost use Rattle.parts.specs.Hashes.{named_digest};
 ghost use Rattle.parts.specs.Helpers.{pair_numbers};
 ghost use Rattle.parts.specs.Sheets.{find_words, digest_words, numbers_words, idle_kind, idle_said, idle, call_answer, kind_answer, line_answer, Answers};
@@ -33,6 +34,13 @@ fn digest_of(hasher: HasherName, bytes: &[u8]) -> [u8; 32]
     }
 }
 
+/// Is a line of these answers `bad-line`?
+fn tells_bad_line(answers: &str) -> bool
+    ensures { result ≡ tells_bad_line answers.now }
+{
+    answers.split('\n').any(|line| line == "bad-line")
+}
+
 /// What a play writes: an answer for each call, and a message for each line that cannot be read.
 #[derive(Drop)]
 pub struct Sheet {
@@ -41,13 +49,13 @@ pub struct Sheet {
 }
 
 impl Sheet {
-    /// Prints the answers, and the messages on standard error; tells whether every line could be read.
+    /// Prints the answers, and the messages on standard error; tells whether no line was answered `bad-line`.
     pub fn print<R: Print + Eprint>(&self, rt: &R) -> io::Result<bool>
-        ensures { IfOk result (λ read. IsTrue read ↔ (string_len self.now.messages ≡ 0)) }
+        ensures { IfOk result (λ read. read ≡ not (tells_bad_line (string_bytes self.now.answers))) }
     {
         rt.print(self.answers.as_str())?;
         rt.eprint(self.messages.as_str())?;
-        Ok(self.messages.is_empty())
+        Ok(!tells_bad_line(self.answers.as_str()))
     }
 
     /// Where its text lies.

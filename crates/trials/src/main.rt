@@ -3,7 +3,7 @@
 
 use std::{fs, io};
 
-/// Prints the answers; fails if a line could not be read.
+/// Prints the answers; fails if one of them is `bad-line`.
 fn play(rt: &HostRuntime, path: &str) -> io::Result<()> {
     let text = fs::read_to_string(rt, path)?;
     let sheet = player::run(rt.alloc(), text.as_str())?;

@@ -1,9 +1,8 @@
 // The prover's and the verifier's run of a script, side by side.
-ghost use Rattle.std.specs.Prelude.{◌≡◌, ℕ, List, IfOk, IsTrue, All, string_bytes};
-ghost use Rattle.rehearsal.specs.Lines.{numbered_lines};
-ghost use Rattle.rehearsal.specs.declared.lines.Numbered.{Numbered};
+ghost use Rattle.std.specs.Prelude.{◌≡◌, None, IfOk, IfErr, string_bytes};
+ghost use Rattle.rehearsal.specs.Lines.{lines_of, numbered_lines};
 ghost use Rattle.player.specs.declared.agreement.Stop.TheVariants.{Memory};
-ghost use Rattle.player.specs.Admitted.{readable};
+ghost use Rattle.player.specs.Admitted.{first_unread, Names};
 ghost use Rattle.parts.specs.Scripts.{tables, script};
 ghost use Rattle.player.specs.Spoken.{stop_words};
 
@@ -43,18 +42,23 @@ impl fmt::Display for Stop<'_> {
 
 /// Refuses the script at the first line that cannot be read.
 fn admit<'a>(heap: Global, lines: &[Numbered<'a>]) -> Result<(), Stop<'a>>
-    ensures { IfOk result (λ _. All (λ (l : Numbered). IsTrue (readable l.text.now)) lines.now) }
+    ensures read { IfOk result (λ _. first_unread (lines_of lines.now) ≡ None) }
+    ensures refused { IfErr result (Names (first_unread (lines_of lines.now))) }
 {
     for line in lines {
-        let number = line.number;
-        read_line(heap, line.text).map_err(|fault| Stop::Unreadable(number, fault))?;
+        match read_line(heap, line.text) {
+            Ok(_) => {}
+            Err(Fault::Memory) => return Err(Stop::Memory),
+            Err(fault) => return Err(Stop::Unreadable(line.number, fault)),
+        }
     }
     Ok(())
 }
 
 /// The prover's and the verifier's run of a script, as tables.
 pub fn agree<'a>(heap: Global, text: &'a str) -> Result<String, Stop<'a>>
-    ensures readable { IfOk result (λ _. All (λ (p : ℕ × List ℕ). IsTrue (readable p.1)) (numbered_lines text.entry.now)) }
+    ensures readable { IfOk result (λ _. first_unread (numbered_lines text.entry.now) ≡ None) }
+    ensures refused { IfErr result (Names (first_unread (numbered_lines text.entry.now))) }
     ensures table { IfOk result (λ table. string_bytes table ≡ script tables (numbered_lines text.entry.now)) }
 {
     let lines = split_lines(heap, text)?;

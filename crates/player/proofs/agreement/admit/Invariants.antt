@@ -1,8 +1,7 @@
-use Rattle.std.proofs.Common.{ℕ, ◌<◌, slice_index_or}
-use Rattle.std.specs.Bool.{IsTrue}
-use Rattle.rehearsal.specs.declared.lines.Numbered.{Numbered}
-use Rattle.player.specs.Admitted.{readable}
+use Rattle.std.proofs.Common.{◌≡◌, drop}
+use Rattle.rehearsal.specs.Lines.{lines_of}
+use Rattle.player.specs.Admitted.{first_unread}
 use Rattle.player.proofs.agreement.admit.Given as goal
 
 abbrev pub invariant-loop-line : goal.invariant-loop-line
-invariant-loop-line l = (k : ℕ) → (d : Numbered) → k < l.line-index → IsTrue (readable (slice_index_or l.lines k d).text.now)
+invariant-loop-line l = first_unread (lines_of l.lines) ≡ first_unread (lines_of (drop l.line-index l.lines))

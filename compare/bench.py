@@ -53,7 +53,7 @@ def main():
     parser = argparse.ArgumentParser(description=__doc__, formatter_class=argparse.RawDescriptionHelpFormatter)
     parser.add_argument("rows", nargs="*", help="rows of the table in README.md; all if none is given")
     parser.add_argument("--turns", type=int, default=5)
-    parser.add_argument("--program", default=HERE.parent / "crates/challenger_bench/out/challenger_bench")
+    parser.add_argument("--program", default=HERE.parent / "crates/bench_challengers/out/bench_challengers")
     parser.add_argument("--rust", default=HERE / "oracle/target/release/bench")
     given = parser.parse_args()
     print(f"{'row':16} {'ours, ms':>10} {'Rust, ms':>10} {'ratio':>6}")

@@ -3,7 +3,7 @@
 
     stored.py [FIRST] [COUNT]    scripts of COUNT seeds from FIRST on; 3000001 and 40 if not given
 
-Writes the scripts to crates/replayed/data/scripts.txt and the driver's answers to crates/replayed/stdout.
+Writes the scripts to crates/test_rust_answers/data/scripts.txt and the driver's answers to crates/test_rust_answers/stdout.
 A script with an answer that rests on no call of the Rust for want of a compiled shape (no-pair) is left out.
 """
 
@@ -13,7 +13,7 @@ import sys
 
 import scripts
 
-CRATE = os.path.join(os.path.dirname(scripts.HERE), "crates", "replayed")
+CRATE = os.path.join(os.path.dirname(scripts.HERE), "crates", "test_rust_answers")
 DRIVER = os.path.join(scripts.HERE, "oracle", "target", "checked", "driver")
 
 

@@ -1,4 +1,4 @@
-/* The other side of tools/bench-hash.sh: portable C, and OpenSSL, on the same chain of 1,024-byte hashes as crates/hash_bench.
+/* The other side of tools/bench-hash.sh: portable C, and OpenSSL, on the same chain of 1,024-byte hashes as crates/bench_hashes.
  * bench-hash c-sha256|openssl-sha256|openssl-sha3 COUNT */
 #include <openssl/evp.h>
 #include <stdint.h>

@@ -2,7 +2,7 @@
 """Plants bugs one at a time in copies of the repository, and runs the check of each one's crate.
 
     tools/plant.py                      all bugs of tools/planted.txt, one after another
-    tools/plant.py --jobs 2 sponge duplex   those of two crates, in two copies
+    tools/plant.py --jobs 2 sponge duplex_challenger   those of two crates, in two copies
     tools/plant.py --dry                only tells whether each text stands where it should
     tools/plant.py --list FILE          those of another list
 

@@ -1,4 +1,4 @@
--- Codes in lists, and what a buffer holds. Assumes nothing.
+-- Codes in lists, and what a buffer holds.
 use Rattle.std.proofs.Common.{◌≡◌, ℕ, zero, suc, ◌+◌, ◌-◌, ◌<◌, ◌≤◌, List, [], ◌∷◌, ◌++◌, length, take, drop, set, replicate, sym, refl, ap, ◌∙◌, inl, inr, arith}
 use lib.ListN.{length-replicate}
 use borrow.Rule.Slice.PartMut.{mid_of, put_mid, mid_len}
@@ -6,7 +6,7 @@ use Rattle.std.proofs.Math.Seq.{take-append-add}
 use Rattle.std.proofs.lemmas.List.{length-take-le, get_or_append_left, get_or-append_right, get_or-replicate, get_or-drop, length-drop, drop-drop, drop-take, take_at, length-append}
 use Rattle.std.proofs.lemmas.Slice.{drop-append-drop}
 use Rattle.std.proofs.lemmas.Bool.{cases_lt}
-use Rattle.permutation.specs.Rows.{Codes}
+use Rattle.permutation.specs.Rows.{HasOnlyCodes}
 use Rattle.buffer.specs.declared.Buffer.{Buffer}
 use Rattle.buffer.specs.Items.{items}
 
@@ -19,17 +19,17 @@ take_set_in (suc n) [] i a = refl
 take_set_in (suc n) (x ∷ xs) zero a = refl
 take_set_in (suc n) (x ∷ xs) (suc i) a = ap (λ ys. x ∷ ys) (take_set_in n xs i a)
 
-pub codes-append : (order : ℕ) (xs ys : List ℕ) → Codes order xs → Codes order ys → Codes order (xs ++ ys)
+pub codes-append : (order : ℕ) (xs ys : List ℕ) → HasOnlyCodes order xs → HasOnlyCodes order ys → HasOnlyCodes order (xs ++ ys)
 codes-append order xs ys hx hy k lt =
     elim (cases_lt k (length xs)) [
       | inl l ↦ rw (get_or_append_left xs ys 0 k l) (hx k l)
       | inr g ↦ rw (get_or-append_right xs ys (length xs) k 0 refl g) (hy (k - length xs) (omega (arith, length-append xs ys)))
     ]
 
-pub codes-drop : (order n : ℕ) (xs : List ℕ) → Codes order xs → Codes order (drop n xs)
+pub codes-drop : (order n : ℕ) (xs : List ℕ) → HasOnlyCodes order xs → HasOnlyCodes order (drop n xs)
 codes-drop order n xs h k lt = rw (get_or-drop n xs k 0) (h (n + k) (omega (arith, length-drop n xs)))
 
-pub codes-zeros : (order n : ℕ) → (0 < n → 0 < order) → Codes order (replicate n 0)
+pub codes-zeros : (order n : ℕ) → (0 < n → 0 < order) → HasOnlyCodes order (replicate n 0)
 codes-zeros order n p k lt =
     let l : k < n = omega (arith, length-replicate {A = ℕ} n 0) in
     rw (get_or-replicate {A = ℕ} n k 0 0 l) (p (omega arith))
@@ -71,7 +71,7 @@ module _ {order n : ℕ} (b : Buffer order n) (words : List ℕ) (end : ℕ) (fe
   pub overwritten-length : length (words ++ (zeros ++ drop end b.cells)) ≡ n
   overwritten-length = omega (arith, length-append words (zeros ++ drop end b.cells), length-append zeros (drop end b.cells), length-drop end b.cells, zeros-length, b.sized, b.within)
 
-  pub overwritten-codes : Codes order words → Codes order (words ++ (zeros ++ drop end (items b)))
+  pub overwritten-codes : HasOnlyCodes order words → HasOnlyCodes order (words ++ (zeros ++ drop end (items b)))
   overwritten-codes h =
       let positive : 0 < end - length words → 0 < order = λ l. (let first = b.codes 0 (omega (arith, items-length b)) in omega (arith, first)) in
       codes-append order words (zeros ++ drop end (items b)) h

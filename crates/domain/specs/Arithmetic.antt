@@ -1,4 +1,4 @@
--- What a domain means. Its codes are the numbers below its order. Assumes nothing.
+-- What a domain means. Its codes are the numbers below its order.
 use Rattle.std.specs.Prelude.{◌≡◌, ℕ, ◌^◌, ◌<◌, ◌≤◌}
 
 -- the codes are a commutative group under add, with 0 neutral

@@ -1,4 +1,4 @@
--- Codes. Assumes nothing.
+-- Codes.
 use Rattle.std.specs.Prelude.{ℕ, Bool, true, ◌&&◌, List, [], ◌∷◌, nat_lt}
 
 -- is every number a code?

@@ -1,5 +1,5 @@
 pub mod Arithmetic
 pub mod Operations
-pub mod ModularLaws
+pub mod ModularProofs
 pub mod Modular
 pub mod Codes

@@ -1,4 +1,4 @@
--- The operations of the four domains. Assumes nothing.
+-- The operations of the four domains.
 use Rattle.std.specs.Prelude.{ℕ, ◌+◌, ◌*◌, ◌/◌, ◌%◌}
 
 -- addition modulo the order
@@ -10,5 +10,5 @@ abbrev pub square : ℕ → ℕ → ℕ
 square order a = a * a % order
 
 -- the low 32 bits times the others
-abbrev pub halves : ℕ → ℕ
-halves a = (a % 4294967296) * (a / 4294967296)
+abbrev pub product_of_halves : ℕ → ℕ
+product_of_halves a = (a % 4294967296) * (a / 4294967296)

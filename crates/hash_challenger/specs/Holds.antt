@@ -1,13 +1,13 @@
 -- What a hash challenger in memory stands for, and what making it fixed.
 use Rattle.std.specs.Prelude.{ℕ}
 use Rattle.hash_state.specs.declared.held.HashHeld.{HashHeld}
-use Rattle.hash_state.specs.Holds.{held as state_held}
+use Rattle.hash_state.specs.Holds.{held_value as state_held}
 use Rattle.hash_challenger.specs.declared.HashChallenger.{HashChallenger}
 
 -- a challenger over a hasher H whose digests have n bytes
 module _ {H : Type 0} {n : ℕ} where
-  abbrev pub held : HashChallenger H n → HashHeld
-  held s = state_held s.state
+  abbrev pub held_value : HashChallenger H n → HashHeld
+  held_value s = state_held s.state
 
   abbrev pub make : HashChallenger H n → H
   make s = s.hasher

@@ -3,9 +3,9 @@ ghost use Rattle.hash_challenger.specs.Calls.{rule as rule_of, stands as checks_
 
 use crate::HashChallenger;
 use hasher::CryptographicHasher;
-use runs::{Answer, Call, Challenger};
+use runs::{Answer, Call, CanTakeCalls};
 
-impl<H: CryptographicHasher<N>, const N: usize> Challenger for HashChallenger<H, N> {
+impl<H: CryptographicHasher<N>, const N: usize> CanTakeCalls for HashChallenger<H, N> {
     ghost rule = { λ _. rule_of H.digest };
 
     ghost stands = { λ _. checks_stand H.digest };

@@ -1,17 +1,37 @@
-ghost use Rattle.std.specs.Prelude.{◌≡◌, ℕ, ◌+◌, ◌<◌, ◌≤◌, true, false, List, length, Decides, MatchResult, nat_le};
-ghost use Rattle.refusal.specs.declared.Refusal.TheVariants.{InitialState};
-ghost use Rattle.interface.specs.Meaning.{observe_of};
-ghost use Rattle.hash_state.specs.Rules.{holding, fresh, room, sound, appended, observed, ready, sample_of, last_output, without_output};
-ghost use Rattle.hash_state.specs.Holds.{held};
+// The state.
+ghost use Rattle.std.specs.Prelude.{◌≡◌, ◌≤◌, ◌||◌, ◌==◌, nat_le, IsTrue, IsFalse};
+ghost use Rattle.hasher.specs.declared.TheConstants.{LONGEST_DIGEST};
 
-use crate::{ByteList, HashState};
-use hasher::CryptographicHasher;
+use crate::ByteList;
+use hasher::{CryptographicHasher, LONGEST_DIGEST};
 use refusal::Refusal;
+use refusal::limits::LONGEST_INPUT;
+
+/// The input, whose first `left` bytes are the outputs not yet taken: after a draw both come from one digest.
+// A list of outputs would hold the same bytes again.
+#[derive(Clone, Copy)]
+pub struct HashState {
+    pub(crate) input: ByteList,
+    left: usize,
+    ghost some: { left ≤ input.count },
+    ghost drawn: { IsTrue (left == 0 || nat_le input.count LONGEST_DIGEST) },
+}
 
 impl HashState {
-    /// The initial bytes and no output; refused if there are more than 1,024.
+    ghost use Rattle.std.specs.Prelude.{◌≡◌, ℕ, ◌+◌, ◌<◌, ◌≤◌, List, length, ◌↔◌, MatchResult};
+    ghost use Rattle.std.specs.Prelude.{nat_le};
+    ghost use Rattle.refusal.specs.declared.Refusal.TheVariants.{InitialState};
+    ghost use Rattle.challenger_traits.specs.Meaning.{observe_of};
+    ghost use Rattle.hash_state.specs.Rules.{is_initial, hash_held, fresh_value, room, can_be_held};
+    ghost use Rattle.hash_state.specs.Rules.{after_append, after_observe, with_output, sample_of};
+    ghost use Rattle.hash_state.specs.Rules.{last_output, without_output};
+    ghost use Rattle.hash_state.specs.Holds.{held_value};
+
+    /// The initial bytes and no output; refused if there are more than `LONGEST_INPUT`.
     pub fn new(initial: &[u8]) -> Result<HashState, Refusal>
-        ensures { MatchResult result (λ s. (nat_le (length initial.now) 1024 ≡ true) × (held s ≡ fresh initial.now)) (λ e. (nat_le (length initial.now) 1024 ≡ false) × (e ≡ InitialState)) }
+        ensures { MatchResult result (λ s. IsTrue (is_initial initial.now)
+            × (held_value s ≡ fresh_value initial.now))
+            (λ e. IsFalse (is_initial initial.now) × (e ≡ InitialState)) }
     {
         let input = ByteList::new(initial).ok_or(Refusal::InitialState)?;
         Ok(HashState { input, left: 0 })
@@ -19,15 +39,15 @@ impl HashState {
 
     /// How many bytes may still be observed.
     pub fn room(&self) -> usize
-        ensures { result ≡ room (held self.now) }
+        ensures { result ≡ room (held_value self.now) }
     {
         self.input.room()
     }
 
     /// Appends bytes that fit, and drops the outputs; no bytes change nothing.
     fn append(&mut self, bytes: &[u8])
-        requires fits { self.old.input.count + length bytes.now ≤ 1024 }
-        ensures { held self.new ≡ appended (held self.old) bytes.now }
+        requires fits { self.old.input.count + length bytes.now ≤ LONGEST_INPUT }
+        ensures { held_value self.new ≡ after_append (held_value self.old) bytes.now }
     {
         if bytes.is_empty() {
             return;
@@ -38,8 +58,10 @@ impl HashState {
 
     /// Observes all the bytes, or none if they exceed the room.
     pub fn observe(&mut self, bytes: &[u8]) -> Result<(), Refusal>
-        ensures said { result ≡ (observe_of (observed (held self.old) bytes.now) (held self.old)).said }
-        ensures left { held self.new ≡ (observe_of (observed (held self.old) bytes.now) (held self.old)).left }
+        ensures said { result ≡ (observe_of (after_observe (held_value self.old) bytes.now)
+            (held_value self.old)).said }
+        ensures left { held_value self.new ≡ (observe_of
+            (after_observe (held_value self.old) bytes.now) (held_value self.old)).left }
     {
         if bytes.len() > self.room() {
             return Err(Refusal::Room);
@@ -49,8 +71,8 @@ impl HashState {
     }
 
     /// With no output left, the input and the outputs become the digest of the input.
-    fn prepare<H: CryptographicHasher<N>, const N: usize>(&mut self, hasher: &H)
-        ensures state { held self.new ≡ ready H.digest (held self.old) }
+    fn ensure_output<H: CryptographicHasher<N>, const N: usize>(&mut self, hasher: &H)
+        ensures state { held_value self.new ≡ with_output H.digest (held_value self.old) }
         ensures some { 0 < self.new.left }
     {
         if self.left > 0 {
@@ -64,8 +86,8 @@ impl HashState {
     /// Takes the last output.
     fn pop(&mut self) -> u8
         requires some { 0 < self.old.left }
-        ensures value { result ≡ last_output (held self.old) }
-        ensures state { held self.new ≡ without_output (held self.old) }
+        ensures value { result ≡ last_output (held_value self.old) }
+        ensures state { held_value self.new ≡ without_output (held_value self.old) }
     {
         self.left -= 1;
         self.input.as_slice()[self.left]
@@ -73,32 +95,32 @@ impl HashState {
 
     /// The last output, after a draw if none is left. What is held is one of the values that can be.
     pub fn sample<H: CryptographicHasher<N>, const N: usize>(&mut self, hasher: &H) -> u8
-        ensures said { result ≡ (sample_of H.digest (held self.old)).said }
-        ensures left { held self.new ≡ (sample_of H.digest (held self.old)).left }
-        ensures sound { sound (held self.old) ≡ true }
+        ensures said { result ≡ (sample_of H.digest (held_value self.old)).said }
+        ensures left { held_value self.new ≡ (sample_of H.digest (held_value self.old)).left }
+        ensures can_be_held { IsTrue (can_be_held (held_value self.old)) }
     {
-        self.prepare::<H, N>(hasher);
+        self.ensure_output::<H, N>(hasher);
         self.pop()
     }
 
     /// The input, to be read.
     pub fn input(&self) -> &[u8]
-        ensures { result.now ≡ (held self.now).input }
+        ensures { result.now ≡ (held_value self.now).input }
     {
         self.input.as_slice()
     }
 
     /// The outputs not yet taken, to be read.
     pub fn outputs(&self) -> &[u8]
-        ensures { result.now ≡ (held self.now).outputs }
+        ensures { result.now ≡ (held_value self.now).outputs }
     {
         &self.input.as_slice()[..self.left]
     }
 
     /// Do both hold the same?
-    // Kept as a comparison of slices: a derived equality would also compare the cells past the count, which are not held.
+    // A derived equality would also compare the cells past the count, which are not held.
     pub fn same_held(&self, other: &HashState) -> bool
-        ensures { Decides result (held self.now ≡ held other.now) }
+        ensures { IsTrue result ↔ (held_value self.now ≡ held_value other.now) }
     {
         self.input() == other.input() && self.outputs() == other.outputs()
     }

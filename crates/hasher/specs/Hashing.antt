@@ -1,13 +1,14 @@
--- What every hash function obeys. Assumes nothing.
+-- What every hash function obeys.
 use Rattle.std.specs.Prelude.{◌≡◌, ℕ, ◌<◌, ◌≤◌, List, length, slice_index}
+use Rattle.hasher.specs.declared.TheConstants.{LONGEST_DIGEST}
 
 -- every number of the list is a byte
-abbrev pub Bytes : List ℕ → Type 0
-Bytes xs = (k : ℕ) → k < length xs → slice_index xs k < 256
+abbrev pub HasOnlyBytes : List ℕ → Type 0
+HasOnlyBytes xs = (k : ℕ) → k < length xs → slice_index xs k < 256
 
--- digests have n bytes, from 1 to 64
-pub record Hashing (n : ℕ) (digest : List ℕ → List ℕ) : Type 0 where
+-- digests have n bytes, at least one, and at most the longest
+pub record IsHashFunction (n : ℕ) (digest : List ℕ → List ℕ) : Type 0 where
   pub some : 1 ≤ n
-  pub most : n ≤ 64
+  pub most : n ≤ LONGEST_DIGEST
   pub size : (m : List ℕ) → length (digest m) ≡ n
-  pub bytes : (m : List ℕ) → Bytes (digest m)
+  pub bytes : (m : List ℕ) → HasOnlyBytes (digest m)

@@ -1,2 +1,2 @@
 pub mod Hashing
-pub mod BytesLaw
+pub mod HashingProofs

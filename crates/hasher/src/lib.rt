@@ -3,7 +3,10 @@
 
 ghost use Rattle.std.specs.Prelude.{◌≡◌, ℕ, ◌+◌, ◌-◌, ◌<◌, ◌≤◌, List, ◌∷◌, ◌++◌, length, replicate};
 ghost use Rattle.std.proofs.Math.Seq.{paste};
-ghost use Rattle.hasher.specs.Hashing.{Hashing};
+ghost use Rattle.hasher.specs.Hashing.{IsHashFunction};
+
+/// The most bytes of a digest.
+pub const LONGEST_DIGEST: usize = 64;
 
 /// A hash function whose digests have `N` bytes.
 pub trait CryptographicHasher<const N: usize> {
@@ -11,7 +14,7 @@ pub trait CryptographicHasher<const N: usize> {
     ghost digest: { List ℕ → List ℕ };
 
     // What each hash function must prove.
-    ghost hashing: { Hashing N digest };
+    ghost hashing: { IsHashFunction N digest };
 
     /// The digest of the input.
     fn hash(&self, input: &[u8]) -> [u8; N]
@@ -20,7 +23,8 @@ pub trait CryptographicHasher<const N: usize> {
 
 /// Writes `from` into `to` at the place `at`; where there is no room it writes nothing.
 pub fn put(to: &mut [u8], at: usize, from: &[u8])
-    ensures written { at + length from.now ≤ length to.old → to.new ≡ paste to.old at from.now (length from.now) }
+    ensures written { at + length from.now ≤ length to.old
+        → to.new ≡ paste to.old at from.now (length from.now) }
     ensures no_room { length to.old < at + length from.now → to.new ≡ to.old }
 {
     if at <= to.len() && from.len() <= to.len() - at {
@@ -29,7 +33,7 @@ pub fn put(to: &mut [u8], at: usize, from: &[u8])
 }
 
 /// The bytes of `rest`, then `mark`, then zeros: how a last block begins.
-pub fn marked<const N: usize>(rest: &[u8], mark: u8) -> [u8; N]
+pub fn marked_block<const N: usize>(rest: &[u8], mark: u8) -> [u8; N]
     requires { length rest.now < N }
     ensures { result ≡ rest.now ++ mark ∷ replicate (N - 1 - length rest.now) 0 }
 {

@@ -59,7 +59,7 @@ fn one_round<const COPY: usize>(a: &[u64; 25], constant: u64) -> [u64; 25]
 }
 
 /// Keccak-f[1600]: 24 rounds, two to a turn.
-// Kept as two rounds to a turn: before any lane stood complemented, with one it took 1.03 to 1.05 times as long, and missed the 0.85 of OpenSSL's speed that is asked in each of six runs; with two it met it in three of them (docs/BENCHMARKS.md).
+// Two rounds to a turn of the loop: with one it took 1.03 to 1.05 times as long (docs/history/BENCHMARKS-other-forms.md).
 pub fn permute(a: [u64; 25]) -> [u64; 25]
     ensures { result ≡ «keccak_f» a }
 {

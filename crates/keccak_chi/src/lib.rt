@@ -7,7 +7,7 @@ ghost use Rattle.keccak_spec.specs.Complemented.{complement, between_rounds, «b
 
 /// Each lane with the two to its right in its row, from lanes of which some come complemented to lanes of which six stay so.
 // A lane that comes complemented needs no `!` before `&`, and between two that do `&` turns into `|`: 8 negations in place of 25.
-// Kept as 25 lanes written out: before any came complemented, with `array::from_fn` over them SHA3-256 ran at a quarter of its speed, which misses the bar (docs/BENCHMARKS.md).
+// 25 lanes written out: with `array::from_fn` SHA3-256 ran at a quarter of its speed (docs/history/BENCHMARKS-other-forms.md).
 // Each number `COPY` is code of its own, which the compiler can then put into its one place.
 pub fn chi<const COPY: usize>(a: &[u64; 25]) -> [u64; 25]
     ensures { complement between_rounds result ≡ χ (complement «before_χ» a.now) }

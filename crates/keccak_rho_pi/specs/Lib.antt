@@ -1,0 +1,1 @@
+pub use Rattle.keccak_spec.specs.Keccak

@@ -1,5 +1,5 @@
 -- Lane complementing, by which Keccak's authors save most of the negations of χ: between the rounds an implementation holds six lanes
--- complemented. The lanes to complement are given as a state of masks, with 2 ^ 64 - 1 at each of them and 0 at the others. Assumes nothing.
+-- complemented. The lanes to complement are given as a state of masks, with 2 ^ 64 - 1 at each of them and 0 at the others.
 use Rattle.std.specs.Prelude.{ℕ, ◌-◌, ◌^◌, List, [], ◌∷◌, bit_xor, slice_index}
 use Rattle.keccak_spec.specs.Keccak.{lanes, θ, ρπ}
 

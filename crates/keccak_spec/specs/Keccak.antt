@@ -1,5 +1,5 @@
 -- Keccak-f[1600] as FIPS 202 defines it, by its sections. The state is a list of 25 lanes, numbers below 2 ^ 64: lane (x, y) stands at
--- i = x + 5 * y, so x is i % 5, y is i / 5, and the lane at x + 1 modulo 5 has the x (i + 1) % 5. Assumes nothing.
+-- i = x + 5 * y, so x is i % 5, y is i / 5, and the lane at x + 1 modulo 5 has the x (i + 1) % 5.
 use Rattle.std.specs.Prelude.{ℕ, ◌+◌, ◌-◌, ◌*◌, ◌/◌, ◌%◌, ◌^◌, List, [], ◌∷◌, map, fold, bit_and, bit_or, bit_xor, slice_index, slice_set}
 use Rattle.std.specs.List.{range_with_len}
 

@@ -5,7 +5,7 @@ ghost use Rattle.std.specs.Prelude.{◌≡◌};
 ghost use Rattle.keccak_spec.specs.Keccak.{θ};
 
 /// Each lane with the parities of the column to its left and, rotated, of the one to its right.
-// Kept as 25 lanes written out: with `array::from_fn` over them SHA3-256 ran at 0.4 of its speed, which misses the bar (docs/BENCHMARKS.md).
+// 25 lanes written out: with `array::from_fn` SHA3-256 ran at 0.4 of its speed (docs/history/BENCHMARKS-other-forms.md).
 // Each number `COPY` is code of its own, which the compiler can then put into its one place.
 pub fn theta<const COPY: usize>(a: &[u64; 25]) -> [u64; 25]
     ensures { result ≡ θ a.now }

@@ -36,7 +36,7 @@ fn read_script(rt: &HostRuntime, path: &str) -> io::Result<String> {
     read
 }
 
-/// The status at the end: 0 if every line was read, else 1.
+/// The status at the end: 1 if a line was answered `bad-line`, else 0.
 fn status(read: bool) -> ExitCode
     ensures { exit_status result ≡ (if read then 0 else 1) }
 {
@@ -71,7 +71,6 @@ fn agree(rt: &HostRuntime, path: &str) -> io::Result<ExitCode> {
 
 /// Does what a command says; another word than a command gets the help.
 fn obey(rt: &HostRuntime, command: &str, path: &str) -> io::Result<ExitCode> {
-    // Kept as a match: each word of the command line has its own arm, and a table of functions says no more.
     match command {
         "run" => run(rt, path),
         "agree" => agree(rt, path),

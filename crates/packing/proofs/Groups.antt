@@ -1,4 +1,4 @@
--- One group of scalars, packed from its end, and the groups of a list in turn. Assumes nothing.
+-- One group of scalars, packed from its end, and the groups of a list in turn.
 use Rattle.std.proofs.Common.{◌≡◌, ℕ, ◌+◌, ◌-◌, ◌*◌, ◌/◌, ◌^◌, ◌<◌, ◌≤◌, min, List, ◌++◌, length, get_or, take, drop, sym, ap, ◌∙◌, inl, inr, arith}
 use Rattle.std.specs.Prelude.{reverse}
 use Rattle.std.proofs.Math.Seq.{take-append_seam, drop-append_seam}
@@ -6,13 +6,14 @@ use Rattle.std.proofs.Math.Nat.{add-mul}
 use Rattle.std.proofs.lemmas.Bool.{cases_lt}
 use Rattle.std.proofs.lemmas.Nat.{div-mul-add}
 use Rattle.std.proofs.lemmas.List.{length-drop, length-reverse, get_or-drop, get_or-reverse, get_or_default, drop_all, drop-drop, at_drop_more, take_min, drop_min}
-use Rattle.permutation.specs.Rows.{Codes}
-use Rattle.bits.specs.CodeBits.{code_bits}
+use Rattle.permutation.specs.Rows.{HasOnlyCodes}
+use Rattle.code_bits.specs.CodeBits.{code_bits}
 use Rattle.packing.specs.Powers.{limbs}
 use Rattle.packing.specs.Packing.{pack, group, groups}
-use Rattle.packing.specs.PackingLaws.{pack_cons, pack-none, pack-word, some-group, group_inside}
+use Rattle.packing.specs.PackingProofs.{pack_cons, pack-none, pack-word, some-group, group_inside}
+use Rattle.refusal.specs.declared.limits.TheConstants.{GREATEST_SAMPLED_ORDER}
 
-codes-drop : (order j : ℕ) (xs : List ℕ) → Codes order xs → Codes order (drop j xs)
+codes-drop : (order j : ℕ) (xs : List ℕ) → HasOnlyCodes order xs → HasOnlyCodes order (drop j xs)
 codes-drop order j xs h k lt = rw (get_or-drop j xs k 0) (h (j + k) (omega (arith, length-drop j xs)))
 
 -- what the last scalars of a group pack to
@@ -36,8 +37,8 @@ module _ (sampled : ℕ) (g : List ℕ) where
       ap (λ n. word * n + x) r ∙ ap (λ n. n * 2 ^ b + x) (w ∙ ap (λ n. pack b (drop n g)) (sym next)) ∙ ap (λ n. pack b (drop (j + 1) g) * 2 ^ b + n) at
       ∙ sym (at_drop_more (pack b) g j 0 (omega arith) ∙ pack_cons b (get_or g j 0) (drop (j + 1) g)) ∙ ap (λ n. pack b (drop n g)) last
 
-pub end-code : (sampled order : ℕ) → 2 ≤ sampled → sampled ≤ 4294967296 → sampled < order → order < 2 ^ 64
-    → (g : List ℕ) → length g ≤ limbs sampled order → Codes sampled g → (k : ℕ) → end_word sampled g k < order
+pub end-code : (sampled order : ℕ) → 2 ≤ sampled → sampled ≤ GREATEST_SAMPLED_ORDER → sampled < order → order < 2 ^ 64
+    → (g : List ℕ) → length g ≤ limbs sampled order → HasOnlyCodes sampled g → (k : ℕ) → end_word sampled g k < order
 end-code sampled order low small less high g few codes k =
     let j = length g - k in
     pack-word sampled order low small less high (drop j g) (omega (arith, length-drop j g)) (codes-drop sampled j g codes)

@@ -1,17 +1,18 @@
 // The numbers of a pair of domains.
 ghost use Rattle.std.specs.Prelude.{◌≡◌, ◌<◌, ◌≤◌};
 
-use crate::Numbers;
+use crate::RadixPacking;
 use crate::powers::{greatest_power, limbs, radix};
+use refusal::limits::GREATEST_SAMPLED_ORDER;
 
-impl<const SAMPLED: u64, const ORDER: u64> Numbers<SAMPLED, ORDER> {
+impl<const SAMPLED: u64, const ORDER: u64> RadixPacking<SAMPLED, ORDER> {
     /// The numbers of a small sampled domain in a larger one.
     pub fn new() -> Self
         requires low { 2 ≤ SAMPLED }
-        requires small { SAMPLED ≤ 4294967296 }
+        requires small { SAMPLED ≤ GREATEST_SAMPLED_ORDER }
         requires less { SAMPLED < ORDER }
     {
-        Numbers {
+        RadixPacking {
             radix: radix(SAMPLED),
             limbs: limbs(SAMPLED, ORDER),
             digits: greatest_power(SAMPLED, ORDER),

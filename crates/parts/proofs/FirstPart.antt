@@ -1,5 +1,5 @@
 -- The first part of a script, and the others.
-use Rattle.std.proofs.Common.{◌≡◌, ℕ, ◌+◌, ◌≤◌, Bool, true, false, cond, List, [], ◌∷◌, ◌++◌, length, drop, refl, ap, sym, ◌∙◌, arith}
+use Rattle.std.proofs.Common.{◌≡◌, ℕ, ◌+◌, ◌≤◌, Bool, true, false, if◌then◌else◌, List, [], ◌∷◌, ◌++◌, length, drop, refl, ap, sym, ◌∙◌, arith}
 use Rattle.std.proofs.Math.Seq.{drop-append_seam}
 use Rattle.std.proofs.lemmas.List.{length-append, length-drop, drop-drop}
 use Rattle.rehearsal.specs.declared.lines.Mark.TheVariants.{Make}
@@ -7,20 +7,21 @@ use Rattle.rehearsal.specs.Lines.{At, marks, before, from}
 use Rattle.script.specs.Grammar.{said_by}
 use Rattle.parts.specs.Scripts.{Way, begun, parts, read_part, all_parts, script}
 
-one_more : (l x : At) (xs : List At) (b : Bool) → cond b ((l, []) ∷ (x, before Make xs) ∷ parts (from Make xs)) ((l, x ∷ before Make xs) ∷ parts (from Make xs)) ≡ (l, cond b [] (x ∷ before Make xs)) ∷ cond b ((x, before Make xs) ∷ parts (from Make xs)) (parts (from Make xs))
+one_more : (l x : At) (xs : List At) (b : Bool) → (if b then (l, []) ∷ (x, before Make xs) ∷ parts (from Make xs) else (l, x ∷ before Make xs) ∷ parts (from Make xs))
+    ≡ (l, if b then [] else x ∷ before Make xs) ∷ (if b then (x, before Make xs) ∷ parts (from Make xs) else parts (from Make xs))
 one_more l x xs true = refl
 one_more l x xs false = refl
 
-parts_cond : (b : Bool) (xs ys : List At) → cond b (parts xs) (parts ys) ≡ parts (cond b xs ys)
-parts_cond true xs ys = refl
-parts_cond false xs ys = refl
+parts-if : (b : Bool) (xs ys : List At) → (if b then parts xs else parts ys) ≡ parts (if b then xs else ys)
+parts-if true xs ys = refl
+parts-if false xs ys = refl
 
 pub parts_first : (l : At) (ls : List At) → parts (l ∷ ls) ≡ (l, before Make ls) ∷ parts (from Make ls)
 parts_first l [] = refl
 parts_first l (x ∷ xs) =
     let ih = parts_first x xs in
     ap (begun l) ih ∙ one_more l x xs (marks Make x)
-    ∙ ap (λ ps. (l, before Make (x ∷ xs)) ∷ ps) (ap (λ ps. cond (marks Make x) ps (parts (from Make xs))) (sym ih) ∙ parts_cond (marks Make x) (x ∷ xs) (from Make xs))
+    ∙ ap (λ ps. (l, before Make (x ∷ xs)) ∷ ps) (ap (λ ps. if marks Make x then ps else parts (from Make xs)) (sym ih) ∙ parts-if (marks Make x) (x ∷ xs) (from Make xs))
 
 pub script_first : (w : Way) (l : At) (ls : List At) → script w (l ∷ ls) ≡ read_part w (l, before Make ls) (said_by l.1) ++ script w (from Make ls)
 script_first w l ls = ap (all_parts w) (parts_first l ls)

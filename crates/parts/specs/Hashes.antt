@@ -1,4 +1,4 @@
--- The digest that a line asks for. Assumes nothing.
+-- The digest that a line asks for.
 use Rattle.std.specs.Prelude.{ℕ, List}
 use Rattle.script.specs.declared.HasherName.{HasherName}
 use Rattle.script.specs.declared.HasherName.TheVariants.{Sha256, Sha3_256}

@@ -1,8 +1,8 @@
--- The numbers that a line asks for, of a pair of domains. Assumes nothing.
-use Rattle.std.specs.Prelude.{ℕ, cond, Ok, Err, Result, nat_le}
+-- The numbers that a line asks for, of a pair of domains.
+use Rattle.std.specs.Prelude.{ℕ, Ok, Err, Result, nat_le, if◌then◌else◌}
 use Rattle.refusal.specs.declared.Refusal.{Refusal}
 use Rattle.refusal.specs.declared.Refusal.TheVariants.{SampledOrder}
-use Rattle.bits.specs.CodeBits.{code_bits}
+use Rattle.code_bits.specs.CodeBits.{code_bits}
 use Rattle.packing.specs.Powers.{limbs, digits}
 use Rattle.script.specs.declared.DomainName.{DomainName}
 use Rattle.script.specs.declared.DomainName.TheVariants.{Bytes, BabyBear, KoalaBear, Goldilocks}
@@ -16,6 +16,4 @@ order_of Goldilocks = 18446744069414584321
 -- the radix bits, limbs and k; the first question of the sampled order is asked
 abbrev pub pair_numbers : DomainName → DomainName → Result (ℕ × ℕ × ℕ) Refusal
 pair_numbers sampled domain =
-    cond (nat_le (order_of sampled) 4294967296)
-    (Ok (code_bits (order_of sampled), limbs (order_of sampled) (order_of domain), digits (order_of sampled) (order_of domain)))
-    (Err SampledOrder)
+    if nat_le (order_of sampled) 4294967296 then Ok (code_bits (order_of sampled), limbs (order_of sampled) (order_of domain), digits (order_of sampled) (order_of domain)) else Err SampledOrder

@@ -1,28 +1,28 @@
--- What a script is answered, part by part, and the challenger of each part. Assumes nothing.
-use Rattle.std.specs.Prelude.{ℕ, cond, List, [], ◌∷◌, ◌++◌, Some, None, Ok, Err, Option, Result}
+-- What a script is answered, part by part, and the challenger of each part.
+use Rattle.std.specs.Prelude.{ℕ, List, [], ◌∷◌, ◌++◌, Some, None, Ok, Err, Option, Result, if◌then◌else◌}
 use Rattle.refusal.specs.declared.Refusal.{Refusal}
 use Rattle.domain.specs.Arithmetic.{Arithmetic}
 use Rattle.domain.specs.Modular.{bytes, baby_bear, koala_bear, goldilocks}
 use Rattle.sponge.specs.Sponge.{SpongeMake}
-use Rattle.hasher.specs.Hashing.{Hashing}
+use Rattle.hasher.specs.Hashing.{IsHashFunction}
 use Rattle.sha256.specs.Sha256.{sha256}
-use Rattle.sha256.specs.Sha256Law.{«sha256_hashing»}
+use Rattle.sha256.specs.Sha256Proofs.{«sha256_hashing»}
 use Rattle.sha3.specs.Sha3.{«sha3_256»}
-use Rattle.sha3.specs.Sha3Law.{«sha3_hashing»}
-use Rattle.duplex.specs.declared.held.DuplexHeld.{DuplexHeld}
-use Rattle.duplex.specs.Rules.{fresh as duplex_fresh}
-use Rattle.duplex.specs.Bytes.{byte_transcript}
-use Rattle.multi_field.specs.declared.held.MultiHeld.{MultiHeld}
-use Rattle.multi_field.specs.Rules.{fresh as multi_fresh}
+use Rattle.sha3.specs.Sha3Proofs.{«sha3_hashing»}
+use Rattle.duplex_challenger.specs.declared.held.DuplexHeld.{DuplexHeld}
+use Rattle.duplex_challenger.specs.Rules.{fresh_value as duplex_fresh}
+use Rattle.duplex_challenger.specs.Bytes.{byte_transcript}
+use Rattle.multi_field_challenger.specs.declared.held.MultiHeld.{MultiHeld}
+use Rattle.multi_field_challenger.specs.Rules.{fresh_value as multi_fresh}
 use Rattle.hash_state.specs.declared.held.HashHeld.{HashHeld}
-use Rattle.hash_state.specs.Rules.{fresh as hash_fresh}
+use Rattle.hash_state.specs.Rules.{fresh_value as hash_fresh}
 use Rattle.hash_challenger.specs.Meaning.{hash_transcript}
 use Rattle.script.specs.declared.DomainName.{DomainName}
 use Rattle.script.specs.declared.DomainName.TheVariants.{Bytes, BabyBear, KoalaBear, Goldilocks}
 use Rattle.script.specs.declared.HasherName.{HasherName}
 use Rattle.script.specs.declared.HasherName.TheVariants.{Sha256, Sha3_256}
 use Rattle.script.specs.declared.SpongeParameters.{SpongeParameters}
-use Rattle.script.specs.Grammar.{Said, to_blank, to_make_duplex, to_make_multi, to_make_hash, to_make_serial_duplex, to_make_serial_hash, to_observe, to_digest, to_digest64, to_sample, to_bits, to_uniform, to_check, to_grind, to_find, to_held, to_finalize, to_hash_of, to_helpers, said_by}
+use Rattle.script.specs.Grammar.{Said, to_make_duplex, to_make_multi, to_make_hash, to_make_serial_duplex, to_make_serial_hash, said_by}
 use Rattle.played.specs.Voices.{Voice, searching, no_search, duplex_voice, multi_voice, hash_voice, serial_voice}
 use Rattle.played.specs.Makes.{asked_sponge, duplex_no, multi_no, hash_no, serial_no}
 use Rattle.rehearsal.specs.declared.lines.Mark.TheVariants.{Make}
@@ -34,7 +34,7 @@ use Rattle.parts.specs.Sheets.{part_answers, refused_answers, idle}
 -- a part begins at each line that begins with make, and the first at the first line
 abbrev pub begun : At → List PartText → List PartText
 begun l [] = (l, []) ∷ []
-begun l (p ∷ ps) = cond (marks Make p.0) ((l, []) ∷ p ∷ ps) ((l, p.0 ∷ p.1) ∷ ps)
+begun l (p ∷ ps) = if marks Make p.0 then (l, []) ∷ p ∷ ps else (l, p.0 ∷ p.1) ∷ ps
 
 abbrev pub parts : List At → List PartText
 parts [] = []
@@ -108,10 +108,10 @@ abbrev pub multi_made : DomainName → DomainName → SpongeParameters → Resul
 multi_made f = multi_made_over (order_of f)
 
 -- over a hash function with its law: the hash challenger, and the serializing one over it
-unfoldable pub hash_made_over : {n : ℕ} (digest : List ℕ → List ℕ) → Hashing n digest → List ℕ → Result (Made HashHeld) Refusal
+unfoldable pub hash_made_over : {n : ℕ} (digest : List ℕ → List ℕ) → IsHashFunction n digest → List ℕ → Result (Made HashHeld) Refusal
 hash_made_over digest hashing initial = unless (hash_no initial) (made_as (hash_voice digest hashing) (hash_fresh initial))
 
-unfoldable pub serial_made_over : {n : ℕ} (digest : List ℕ → List ℕ) → Hashing n digest → ℕ → List ℕ → Result (Made HashHeld) Refusal
+unfoldable pub serial_made_over : {n : ℕ} (digest : List ℕ → List ℕ) → IsHashFunction n digest → ℕ → List ℕ → Result (Made HashHeld) Refusal
 serial_made_over digest hashing order initial =
     unless (serial_no order (hash_no initial))
     (made_as (serial_voice order (hash_transcript digest hashing) (hash_voice digest hashing)) (hash_fresh initial))
@@ -142,20 +142,7 @@ said_part w p (to_make_multi f d asked) = made_part w (multi_made f d asked) p
 said_part w p (to_make_hash k) = made_part w (hash_made k) p
 said_part w p (to_make_serial_duplex f asked) = made_part w (serial_duplex_made f asked) p
 said_part w p (to_make_serial_hash f k) = made_part w (serial_hash_made f k) p
-said_part w p to_blank = idle_part w p
-said_part w p (to_observe xs) = idle_part w p
-said_part w p (to_digest xs) = idle_part w p
-said_part w p (to_digest64 xs) = idle_part w p
-said_part w p (to_sample o) = idle_part w p
-said_part w p (to_bits b) = idle_part w p
-said_part w p (to_uniform q) = idle_part w p
-said_part w p (to_check q) = idle_part w p
-said_part w p (to_grind q) = idle_part w p
-said_part w p (to_find q) = idle_part w p
-said_part w p to_held = idle_part w p
-said_part w p to_finalize = idle_part w p
-said_part w p (to_hash_of k) = idle_part w p
-said_part w p (to_helpers f d) = idle_part w p
+said_part w p _ = idle_part w p
 
 abbrev pub read_part : Way → PartText → Option Said → List ℕ
 read_part w p None = idle_part w p

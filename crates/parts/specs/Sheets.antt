@@ -1,9 +1,9 @@
--- The answers to the lines of a script. Assumes nothing.
+-- The answers to the lines of a script.
 use Rattle.std.specs.Prelude.{◌≡◌, ℕ, List, [], ◌∷◌, ◌++◌, Some, None, Ok, Err, Option, Result, codes, decimal}
 use Rattle.hex.specs.Hex.{encode_lower}
 use Rattle.refusal.specs.declared.Refusal.{Refusal}
 use Rattle.refusal.specs.Spoken.{refusal_words}
-use Rattle.interface.specs.Meaning.{Reply, reply}
+use Rattle.challenger_traits.specs.Meaning.{Reply, reply}
 use Rattle.runs.specs.declared.call.Call.{Call}
 use Rattle.runs.specs.Spoken.{answer_words}
 use Rattle.script.specs.declared.HasherName.{HasherName}
@@ -37,12 +37,9 @@ numbers_words (Err e) = refusal_words e
 -- the answer to a line where there is no challenger
 abbrev pub idle_kind : LineKind → List ℕ
 idle_kind blank = []
-idle_kind call = ended (codes "no-challenger")
-idle_kind (find n m) = ended (codes "no-challenger")
-idle_kind held = ended (codes "no-challenger")
 idle_kind (hash_of k) = ended (digest_words k)
 idle_kind (helpers f d) = ended (numbers_words (pair_numbers f d))
-idle_kind bound = ended (codes "no-challenger")
+idle_kind _ = ended (codes "no-challenger")
 
 abbrev pub idle_said : Option Said → List ℕ
 idle_said None = ended (codes "bad-line")

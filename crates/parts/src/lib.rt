@@ -6,7 +6,11 @@ ghost use Rattle.script.specs.Meaning.{hash_parameters};
 ghost use Rattle.script.specs.Grammar.{said_by};
 ghost use Rattle.played.specs.Voices.{voice};
 ghost use Rattle.rehearsal.specs.Lines.{lines_of, part_of};
-ghost use Rattle.parts.specs.Scripts.{Way as WayT, made_as, told, begun_part, refused_part, idle_part, made_part, duplex_made, multi_made_over, multi_made, hash_made, serial_duplex_made_over, serial_duplex_made, serial_hash_made_over, serial_hash_made, read_part, script as script_of};
+ghost use Rattle.parts.specs.Scripts.{Way as WayT, made_as, told, begun_part, refused_part};
+ghost use Rattle.parts.specs.Scripts.{idle_part, made_part, duplex_made, multi_made_over};
+ghost use Rattle.parts.specs.Scripts.{multi_made, hash_made, serial_duplex_made_over};
+ghost use Rattle.parts.specs.Scripts.{serial_duplex_made, serial_hash_made_over, serial_hash_made};
+ghost use Rattle.parts.specs.Scripts.{read_part, script as script_of};
 
 use domain::{BabyBear, Bytes, Domain, Goldilocks, KoalaBear};
 use played::{
@@ -32,25 +36,32 @@ pub trait Playing {
 
     /// Goes on with the challenger that a part made.
     fn begin<C: Played + Copy>(&mut self, fresh: C, part: &Part<'_>) -> Result<(), AllocError>
-        ensures { IfOk result (λ _. text self.new ≡ text self.old ++ begun_part way (made_as (voice C.rule C.shown C.ending C.speaks C.found (C.make fresh)) (C.held fresh)) (part_of part.now)) };
+        ensures { IfOk result (λ _. text self.new
+            ≡ text self.old ++ begun_part way
+            (made_as (voice C.rule C.shown C.ending C.speaks C.found (C.make fresh))
+            (C.held_value fresh)) (part_of part.now)) };
 
     /// Goes on after a make that was refused.
     fn refuse(&mut self, refusal: &Refusal, part: &Part<'_>) -> Result<(), AllocError>
-        ensures { IfOk result (λ _. text self.new ≡ text self.old ++ refused_part way refusal.now (part_of part.now)) };
+        ensures { IfOk result (λ _. text self.new
+            ≡ text self.old ++ refused_part way refusal.now (part_of part.now)) };
 
     /// Goes on where no challenger was asked for.
     fn idle(&mut self, part: &Part<'_>) -> Result<(), AllocError>
-        ensures { IfOk result (λ _. text self.new ≡ text self.old ++ idle_part way (part_of part.now)) };
+        ensures { IfOk result (λ _. text self.new
+            ≡ text self.old ++ idle_part way (part_of part.now)) };
 }
 
-// Kept as two parameters, here and below: a part is what is read, a player what is written.
 /// Goes on with a challenger, or after its refusal.
 fn begin_or_refuse<C: Played + Copy, P: Playing>(
     made: Result<C, Refusal>,
     part: &Part<'_>,
     player: &mut P,
 ) -> Result<(), AllocError>
-    ensures { IfOk result (λ _. P.text player.new ≡ P.text player.old ++ made_part P.way (told (λ c. voice C.rule C.shown C.ending C.speaks C.found (C.make c)) C.held made) (part_of part.now)) }
+    ensures { IfOk result (λ _. P.text player.new
+        ≡ P.text player.old ++ made_part P.way
+        (told (λ c. voice C.rule C.shown C.ending C.speaks C.found (C.make c)) C.held_value made)
+        (part_of part.now)) }
 {
     match made {
         Ok(fresh) => player.begin(fresh, part),
@@ -65,7 +76,8 @@ fn begin_duplex<P: Playing>(
     part: &Part<'_>,
     player: &mut P,
 ) -> Result<(), AllocError>
-    ensures { IfOk result (λ _. P.text player.new ≡ P.text player.old ++ made_part P.way (duplex_made domain asked.now) (part_of part.now)) }
+    ensures { IfOk result (λ _. P.text player.new
+        ≡ P.text player.old ++ made_part P.way (duplex_made domain asked.now) (part_of part.now)) }
 {
     match domain {
         DomainName::Bytes => begin_or_refuse(make_duplex::<Bytes, 256>(asked), part, player),
@@ -94,7 +106,9 @@ fn begin_multi_over<F: Domain<SAMPLED> + Copy, P: Playing, const SAMPLED: u64>(
     part: &Part<'_>,
     player: &mut P,
 ) -> Result<(), AllocError>
-    ensures { IfOk result (λ _. P.text player.new ≡ P.text player.old ++ made_part P.way (multi_made_over SAMPLED domain asked.now) (part_of part.now)) }
+    ensures { IfOk result (λ _. P.text player.new
+        ≡ P.text player.old ++ made_part P.way (multi_made_over SAMPLED domain asked.now)
+        (part_of part.now)) }
 {
     match domain {
         DomainName::Bytes => begin_or_refuse(
@@ -128,7 +142,9 @@ fn begin_multi<P: Playing>(
     part: &Part<'_>,
     player: &mut P,
 ) -> Result<(), AllocError>
-    ensures { IfOk result (λ _. P.text player.new ≡ P.text player.old ++ made_part P.way (multi_made sampled domain asked.now) (part_of part.now)) }
+    ensures { IfOk result (λ _. P.text player.new
+        ≡ P.text player.old ++ made_part P.way (multi_made sampled domain asked.now)
+        (part_of part.now)) }
 {
     match sampled {
         DomainName::Bytes => begin_multi_over::<Bytes, P, 256>(domain, asked, part, player),
@@ -150,7 +166,9 @@ fn begin_hash<P: Playing>(
     part: &Part<'_>,
     player: &mut P,
 ) -> Result<(), AllocError>
-    ensures { IfOk result (λ _. P.text player.new ≡ P.text player.old ++ made_part P.way (hash_made (hash_parameters asked.now)) (part_of part.now)) }
+    ensures { IfOk result (λ _. P.text player.new
+        ≡ P.text player.old ++ made_part P.way (hash_made (hash_parameters asked.now))
+        (part_of part.now)) }
 {
     let initial = asked.bytes.as_slice();
     match asked.hasher {
@@ -165,7 +183,9 @@ fn begin_serial_duplex_in<D: Domain<ORDER> + Copy, P: Playing, const ORDER: u64>
     part: &Part<'_>,
     player: &mut P,
 ) -> Result<(), AllocError>
-    ensures { IfOk result (λ _. P.text player.new ≡ P.text player.old ++ made_part P.way (serial_duplex_made_over ORDER asked.now) (part_of part.now)) }
+    ensures { IfOk result (λ _. P.text player.new
+        ≡ P.text player.old ++ made_part P.way (serial_duplex_made_over ORDER asked.now)
+        (part_of part.now)) }
 {
     begin_or_refuse(make_serial_duplex::<D, ORDER>(asked), part, player)
 }
@@ -177,7 +197,9 @@ fn begin_serial_duplex<P: Playing>(
     part: &Part<'_>,
     player: &mut P,
 ) -> Result<(), AllocError>
-    ensures { IfOk result (λ _. P.text player.new ≡ P.text player.old ++ made_part P.way (serial_duplex_made sampled asked.now) (part_of part.now)) }
+    ensures { IfOk result (λ _. P.text player.new
+        ≡ P.text player.old ++ made_part P.way (serial_duplex_made sampled asked.now)
+        (part_of part.now)) }
 {
     match sampled {
         DomainName::Bytes => begin_serial_duplex_in::<Bytes, P, 256>(asked, part, player),
@@ -199,7 +221,9 @@ fn begin_serial_hash_in<D: Domain<ORDER> + Copy, P: Playing, const ORDER: u64>(
     part: &Part<'_>,
     player: &mut P,
 ) -> Result<(), AllocError>
-    ensures { IfOk result (λ _. P.text player.new ≡ P.text player.old ++ made_part P.way (serial_hash_made_over ORDER (hash_parameters asked.now)) (part_of part.now)) }
+    ensures { IfOk result (λ _. P.text player.new
+        ≡ P.text player.old ++ made_part P.way
+        (serial_hash_made_over ORDER (hash_parameters asked.now)) (part_of part.now)) }
 {
     let initial = asked.bytes.as_slice();
     match asked.hasher {
@@ -223,7 +247,9 @@ fn begin_serial_hash<P: Playing>(
     part: &Part<'_>,
     player: &mut P,
 ) -> Result<(), AllocError>
-    ensures { IfOk result (λ _. P.text player.new ≡ P.text player.old ++ made_part P.way (serial_hash_made sampled (hash_parameters asked.now)) (part_of part.now)) }
+    ensures { IfOk result (λ _. P.text player.new
+        ≡ P.text player.old ++ made_part P.way
+        (serial_hash_made sampled (hash_parameters asked.now)) (part_of part.now)) }
 {
     match sampled {
         DomainName::Bytes => begin_serial_hash_in::<Bytes, P, 256>(asked, part, player),
@@ -241,7 +267,9 @@ fn begin_serial_hash<P: Playing>(
 
 /// Plays a part.
 fn play_part<P: Playing>(heap: Global, part: &Part<'_>, player: &mut P) -> Result<(), AllocError>
-    ensures { IfOk result (λ _. P.text player.new ≡ P.text player.old ++ read_part P.way (part_of part.now) (said_by part.now.make.text.now)) }
+    ensures { IfOk result (λ _. P.text player.new
+        ≡ P.text player.old ++ read_part P.way (part_of part.now)
+        (said_by part.now.make.text.now)) }
 {
     match read_line(heap, part.make.text) {
         Ok(Line::MakeDuplex(domain, asked)) => begin_duplex(domain, &asked, part, player),
@@ -266,7 +294,8 @@ pub fn play_parts<P: Playing>(
     lines: &[Numbered<'_>],
     player: &mut P,
 ) -> Result<(), AllocError>
-    ensures { IfOk result (λ _. P.text player.new ≡ P.text player.old ++ script_of P.way (lines_of lines.now)) }
+    ensures { IfOk result (λ _. P.text player.new
+        ≡ P.text player.old ++ script_of P.way (lines_of lines.now)) }
 {
     let mut at = 0;
     while let Some((make, behind)) = lines[at..].split_first() {

@@ -1,4 +1,4 @@
--- What the steps and rounds of a ladder write, one more at a time. Assumes nothing.
+-- What the steps and rounds of a ladder write, one more at a time.
 use Rattle.std.proofs.Common.{◌≡◌, ℕ, ◌+◌, List, length, ap, add-one}
 use Rattle.domain.specs.Arithmetic.{Arithmetic}
 use Rattle.permutation.specs.Ladder.{ladder_step, ladder_steps, ladder_rounds}

@@ -1,10 +1,11 @@
--- What a ladder does to a row. Assumes nothing.
+-- What a ladder does to a row.
 use Rattle.std.specs.Prelude.{ℕ, zero, suc, ◌+◌, ◌%◌, Bool, ◌&&◌, List, length, nat_le, slice_index, slice_set}
 use Rattle.domain.specs.Arithmetic.{Arithmetic}
+use Rattle.refusal.specs.declared.limits.TheConstants.{MOST_ROUNDS}
 
--- is the number of rounds 1 to 16?
-abbrev pub ladder_shaped : ℕ → Bool
-ladder_shaped rounds = nat_le 1 rounds && nat_le rounds 16
+-- is the number of rounds at least 1, and at most the most?
+abbrev pub is_round_count : ℕ → Bool
+is_round_count rounds = nat_le 1 rounds && nat_le rounds MOST_ROUNDS
 
 -- step i of round r: the cell after cell i gains stir (cell i) + (r + i + 1); after the last cell comes the first
 unfoldable pub ladder_step : {order : ℕ} → Arithmetic order → ℕ → ℕ → List ℕ → List ℕ

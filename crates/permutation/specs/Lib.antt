@@ -1,5 +1,6 @@
 pub mod Rows
+pub mod RowsProofs
 pub mod Ladder
-pub mod AddCancel
-pub mod LadderLaw
-pub mod MirrorLaw
+pub mod AddCancelProofs
+pub mod LadderProofs
+pub mod MirrorProofs

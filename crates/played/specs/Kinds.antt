@@ -1,4 +1,4 @@
--- The kinds of lines. Assumes nothing.
+-- The kinds of lines.
 use Rattle.std.specs.Prelude.{ℕ, List}
 use Rattle.script.specs.declared.DomainName.{DomainName}
 use Rattle.script.specs.declared.HasherName.{HasherName}

@@ -1,6 +1,12 @@
+pub use Rattle.byte_transcript.specs.Transcript
+pub use Rattle.domain.specs.Arithmetic
+pub use Rattle.domain.specs.Modular
+pub use Rattle.duplex_challenger.specs.Bytes
+pub use Rattle.sponge.specs.Sponge
+pub use Rattle.sponge.specs.SpongeHeld
 pub mod Permutations
 pub mod Requests
-pub mod PlainLaw
+pub mod PlainProofs
 pub mod Kinds
 pub mod Spoken
 pub mod Shown

@@ -1,5 +1,5 @@
--- The call that a line asks of a challenger. Assumes nothing.
-use Rattle.std.specs.Prelude.{ℕ, Bool, true, false, cond, List, Some, None, Option, Ok, Err, Result}
+-- The call that a line asks of a challenger.
+use Rattle.std.specs.Prelude.{ℕ, Bool, true, false, List, Some, None, Option, Ok, Err, Result, if◌then◌else◌}
 use Rattle.std.specs.Option.{option_map}
 use denote.Ref.{Bor}
 use Rattle.domain.specs.Codes.{all_codes}
@@ -13,29 +13,13 @@ use Rattle.played.specs.declared.dialect.Unfit.TheVariants.{NotBytes, Limit}
 
 -- the numbers, if all are bytes
 abbrev pub as_bytes : List ℕ → Option (List ℕ)
-as_bytes xs = cond (all_codes 256 xs) (Some xs) None
+as_bytes xs = if all_codes 256 xs then Some xs else None
 
 -- the numbers of an observe or a digest, if all are bytes
 abbrev pub bytes_said : Said → Option (List ℕ)
-bytes_said to_blank = None
-bytes_said (to_make_duplex d k) = None
-bytes_said (to_make_multi f d k) = None
-bytes_said (to_make_hash k) = None
-bytes_said (to_make_serial_duplex f k) = None
-bytes_said (to_make_serial_hash f k) = None
 bytes_said (to_observe xs) = as_bytes xs
 bytes_said (to_digest xs) = as_bytes xs
-bytes_said (to_digest64 xs) = None
-bytes_said (to_sample o) = None
-bytes_said (to_bits b) = None
-bytes_said (to_uniform p) = None
-bytes_said (to_check p) = None
-bytes_said (to_grind p) = None
-bytes_said (to_find p) = None
-bytes_said to_held = None
-bytes_said to_finalize = None
-bytes_said (to_hash_of k) = None
-bytes_said (to_helpers f d) = None
+bytes_said _ = None
 
 -- a list, lent from nowhere
 abbrev pub lent : List ℕ → Bor (List ℕ)
@@ -77,7 +61,7 @@ lending call (Some bs) = Ok (Some (call (lent bs)))
 
 -- the call of bytes, where bytes are taken, or that of codes
 abbrev pub taking : Bool → (Bor (List ℕ) → Call) → (Bor (List ℕ) → Call) → List ℕ → Result (Option Call) Unfit
-taking bytes of_bytes of_codes xs = cond bytes (lending of_bytes (as_bytes xs)) (Ok (Some (of_codes (lent xs))))
+taking bytes of_bytes of_codes xs = if bytes then lending of_bytes (as_bytes xs) else Ok (Some (of_codes (lent xs)))
 
 -- a sample gives a draw limit to a serializing challenger, and to no other
 abbrev pub sampling : Dialect → Option ℕ → Result (Option Call) Unfit

@@ -1,8 +1,8 @@
--- What is printed of challengers. Assumes nothing.
+-- What is printed of challengers.
 use Rattle.std.specs.Prelude.{ℕ, List, codes}
 use Rattle.printing.specs.Spoken.{listed, held_words, squeeze_words, hash_words}
-use Rattle.duplex.specs.declared.held.DuplexHeld.{DuplexHeld}
-use Rattle.multi_field.specs.declared.held.MultiHeld.{MultiHeld}
+use Rattle.duplex_challenger.specs.declared.held.DuplexHeld.{DuplexHeld}
+use Rattle.multi_field_challenger.specs.declared.held.MultiHeld.{MultiHeld}
 use Rattle.hash_state.specs.declared.held.HashHeld.{HashHeld}
 
 abbrev pub duplex_words : DuplexHeld → List ℕ

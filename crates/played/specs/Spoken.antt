@@ -1,4 +1,4 @@
--- The answer to a line that does not fit its challenger, as bytes. Assumes nothing.
+-- The answer to a line that does not fit its challenger, as bytes.
 use Rattle.std.specs.Prelude.{ℕ, List, codes}
 use Rattle.played.specs.declared.dialect.Unfit.{Unfit}
 use Rattle.played.specs.declared.dialect.Unfit.TheVariants.{NotBytes, Limit}

@@ -1,20 +1,20 @@
--- What a script hears of each challenger. Assumes nothing.
+-- What a script hears of each challenger.
 use Rattle.std.specs.Prelude.{ℕ, List, Some, None, Option}
 use Rattle.runs.specs.Runs.{Rule}
 use Rattle.sponge.specs.Sponge.{SpongeMake}
-use Rattle.transcript.specs.Transcript.{Transcript, sought}
-use Rattle.hasher.specs.Hashing.{Hashing}
+use Rattle.byte_transcript.specs.Transcript.{Transcript, least_candidate}
+use Rattle.hasher.specs.Hashing.{IsHashFunction}
 use Rattle.printing.specs.Spoken.{hex_words}
-use Rattle.duplex.specs.declared.held.DuplexHeld.{DuplexHeld}
-use Rattle.duplex.specs.Rules.{finalized as duplex_finalized}
-use Rattle.duplex.specs.Calls.{rule as duplex_rule}
-use Rattle.multi_field.specs.declared.held.MultiHeld.{MultiHeld}
-use Rattle.multi_field.specs.Rules.{finalized as multi_finalized}
-use Rattle.multi_field.specs.Calls.{rule as multi_rule}
+use Rattle.duplex_challenger.specs.declared.held.DuplexHeld.{DuplexHeld}
+use Rattle.duplex_challenger.specs.Rules.{final_rate as duplex_finalized}
+use Rattle.duplex_challenger.specs.Calls.{rule as duplex_rule}
+use Rattle.multi_field_challenger.specs.declared.held.MultiHeld.{MultiHeld}
+use Rattle.multi_field_challenger.specs.Rules.{final_rate as multi_finalized}
+use Rattle.multi_field_challenger.specs.Calls.{rule as multi_rule}
 use Rattle.hash_state.specs.declared.held.HashHeld.{HashHeld}
 use Rattle.hash_challenger.specs.Calls.{rule as hash_rule}
 use Rattle.hash_challenger.specs.Meaning.{hash_transcript}
-use Rattle.serializing.specs.Calls.{rule as serial_rule}
+use Rattle.serializing_challenger.specs.Calls.{rule as serial_rule}
 use Rattle.played.specs.declared.dialect.Dialect.{Dialect}
 use Rattle.played.specs.declared.dialect.Dialect.TheVariants.{Codes, Bytes, Serializing}
 use Rattle.played.specs.Shown.{duplex_words, multi_words, hash_held_words, codes_words}
@@ -32,7 +32,7 @@ voice rule shown ending dialect found k = record { rule = rule k; shown = shown;
 
 -- a search, and none
 abbrev pub searching : {Held : Type 0} → Transcript Held → Held → ℕ → ℕ → Option (Option ℕ)
-searching m h n mask = Some (sought m h n mask)
+searching m h n mask = Some (least_candidate m h n mask)
 
 abbrev pub no_search : {Held : Type 0} → Held → ℕ → ℕ → Option (Option ℕ)
 no_search h n mask = None
@@ -43,7 +43,7 @@ duplex_voice found k = record { rule = duplex_rule k; shown = duplex_words; endi
 abbrev pub multi_voice : {order : ℕ} → ℕ → SpongeMake order → Voice MultiHeld
 multi_voice sampled k = record { rule = multi_rule sampled k; shown = multi_words; ending = λ h. codes_words (multi_finalized sampled k h); dialect = Codes; found = no_search }
 
-abbrev pub hash_voice : {n : ℕ} (digest : List ℕ → List ℕ) → Hashing n digest → Voice HashHeld
+abbrev pub hash_voice : {n : ℕ} (digest : List ℕ → List ℕ) → IsHashFunction n digest → Voice HashHeld
 hash_voice digest hashing = record { rule = hash_rule digest; shown = hash_held_words; ending = λ h. hex_words (digest h.input); dialect = Bytes; found = searching (hash_transcript digest hashing) }
 
 -- over a transcript of this meaning and voice: what is printed is the transcript's

@@ -2,10 +2,10 @@
 ghost use Rattle.std.specs.Prelude.{Some};
 ghost use Rattle.played.specs.Spoken.{unfit_words};
 
-use std::fmt;
+use std::{error, fmt};
 
 /// What the numbers of a line are for a challenger, and whether its samples take a draw limit.
-#[derive(Clone, Copy)]
+#[derive(Clone, Copy, PartialEq, Eq, Debug)]
 pub enum Dialect {
     /// Codes.
     Codes,
@@ -16,7 +16,7 @@ pub enum Dialect {
 }
 
 /// Why a challenger is not asked for the call of a line.
-#[derive(Clone, Copy)]
+#[derive(Clone, Copy, PartialEq, Eq, Debug)]
 pub enum Unfit {
     /// A number above 255 where bytes are taken.
     NotBytes,
@@ -34,3 +34,5 @@ impl fmt::Display for Unfit {
         }
     }
 }
+
+impl error::Error for Unfit {}

@@ -1,17 +1,17 @@
 // The hash challenger.
 ghost use Rattle.std.specs.Prelude.{Some};
-ghost use Rattle.transcript.specs.Transcript.{sought};
+ghost use Rattle.byte_transcript.specs.Transcript.{least_candidate};
 ghost use Rattle.hash_challenger.specs.Meaning.{hash_transcript};
 ghost use Rattle.printing.specs.Spoken.{hex_words};
 ghost use Rattle.played.specs.declared.dialect.Dialect.TheVariants.{Bytes};
 ghost use Rattle.played.specs.Shown.{hash_held_words};
 
 use crate::{Dialect, Played, Shown};
+use byte_transcript::ByteGrindingChallenger;
 use hash_challenger::HashChallenger;
 use hasher::CryptographicHasher;
 use printing::hex_text;
 use std::alloc::{AllocError, Global};
-use transcript::ByteGrindingChallenger;
 
 impl<H: CryptographicHasher<N> + Copy, const N: usize> Shown for HashChallenger<H, N> {
     ghost shown = { hash_held_words };
@@ -33,9 +33,10 @@ impl<H: CryptographicHasher<N> + Copy, const N: usize> Shown for HashChallenger<
 impl<H: CryptographicHasher<N> + Copy, const N: usize> Played for HashChallenger<H, N> {
     ghost speaks = { Bytes };
 
-    ghost found = { λ k h n mask. Some (sought (hash_transcript H.digest H.hashing) h n mask) };
+    ghost found = { λ k h n mask. Some (least_candidate (hash_transcript H.digest H.hashing) h n
+        mask) };
 
-    #[tactic(auto, using(crate::specs::PlainLaw::hash_alike))]
+    #[tactic(auto, using(crate::specs::PlainProofs::hash_alike))]
     fn dialect(&self) -> Dialect {
         Dialect::Bytes
     }

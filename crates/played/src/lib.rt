@@ -14,15 +14,15 @@ mod request;
 mod serial;
 mod sponges;
 
+use challenger_traits::Holding;
 pub use dialect::{Dialect, Unfit};
-use interface::Holding;
 pub use making::{
     ByteDuplex, make_duplex, make_hash, make_multi, make_serial_duplex, make_serial_sha3,
     make_serial_sha256,
 };
 pub use named::Permutation;
 pub use request::Request;
-use runs::Challenger;
+use runs::CanTakeCalls;
 use std::alloc::{AllocError, Global};
 
 /// What is printed of a challenger.
@@ -35,15 +35,16 @@ pub trait Shown: Holding {
 
     /// What it holds, as text.
     fn held(&self, heap: Global) -> Result<String, AllocError>
-        ensures { IfOk result (λ text. string_bytes text ≡ shown (Self.held self.now)) };
+        ensures { IfOk result (λ text. string_bytes text ≡ shown (Self.held_value self.now)) };
 
     /// Its digest, if it were finalized now, as text.
     fn digest(&self, heap: Global) -> Result<String, AllocError>
-        ensures { IfOk result (λ text. string_bytes text ≡ ending (Self.make self.now) (Self.held self.now)) };
+        ensures { IfOk result (λ text. string_bytes text
+            ≡ ending (Self.make self.now) (Self.held_value self.now)) };
 }
 
 /// A challenger that a script plays.
-pub trait Played: Challenger + Shown {
+pub trait Played: CanTakeCalls + Shown {
     // What the numbers of its lines are.
     ghost speaks: { DialectT };
 
@@ -53,9 +54,10 @@ pub trait Played: Challenger + Shown {
     /// What the numbers of its lines are. A call means the same wherever the list lies that it lends.
     fn dialect(&self) -> Dialect
         ensures value { result ≡ speaks }
-        ensures lent { (h : Self.Held) (c : CallT) → Self.rule (Self.make self.now) h c ≡ Self.rule (Self.make self.now) h (plain c) };
+        ensures lent { (h : Self.Held) (c : CallT)
+            → Self.rule (Self.make self.now) h c ≡ Self.rule (Self.make self.now) h (plain c) };
 
     /// The least candidate, or none; None if it has no such call.
     fn find(&self, candidates: u64, mask: u64) -> Option<Option<u64>>
-        ensures { result ≡ found (Self.make self.now) (Self.held self.now) candidates mask };
+        ensures { result ≡ found (Self.make self.now) (Self.held_value self.now) candidates mask };
 }

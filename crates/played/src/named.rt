@@ -1,7 +1,8 @@
 // The permutation that a line names.
 ghost use Rattle.std.specs.Prelude.{◌≡◌, ℕ, Some, None, MatchResult};
 ghost use Rattle.domain.specs.Arithmetic.{Arithmetic};
-ghost use Rattle.played.specs.Permutations.{image as image_of, lawful as lawful_of, named_no, named_image};
+ghost use Rattle.played.specs.Permutations.{image as image_of, lawful as lawful_of, named_no};
+ghost use Rattle.played.specs.Permutations.{named_image};
 
 use domain::Domain;
 use permutation::{CryptographicPermutation, Ladder, Mirror};
@@ -9,7 +10,7 @@ use refusal::Refusal;
 use script::PermutationName;
 
 /// One of the permutations, chosen while a script is read.
-#[derive(Clone, Copy)]
+#[derive(Clone, Copy, PartialEq, Eq, Debug)]
 pub enum Permutation {
     Mirror(Mirror),
     Ladder(Ladder),
@@ -18,7 +19,9 @@ pub enum Permutation {
 impl Permutation {
     /// The permutation of a name; refused if it is a ladder of other than 1 to 16 rounds.
     pub fn new(name: PermutationName) -> Result<Self, Refusal>
-        ensures { MatchResult result (λ p. (named_no name ≡ None) × ((order : ℕ) (d : Arithmetic order) → image_of d p ≡ named_image d name)) (λ e. named_no name ≡ Some e) }
+        ensures { MatchResult result (λ p. (named_no name ≡ None)
+            × ((order : ℕ) (d : Arithmetic order) → image_of d p ≡ named_image d name))
+            (λ e. named_no name ≡ Some e) }
     {
         match name {
             PermutationName::Mirror => Ok(Permutation::Mirror(Mirror)),

@@ -26,7 +26,7 @@ fn as_bytes(heap: Global, numbers: &[u64]) -> Result<Option<Vec<u8>>, AllocError
     if !all_codes::<256>(numbers) {
         return Ok(None);
     }
-    // Kept as a remainder: a cast has to be shown to fit.
+    // A remainder needs no proof that it fits a byte.
     let bytes = numbers
         .iter()
         .map(|number| (*number % 256) as u8)
@@ -59,7 +59,8 @@ impl Request {
 
     /// The bytes to be lent.
     fn bytes(&self) -> Result<&[u8], Unfit>
-        ensures { MatchResult result (λ b. Some b.now ≡ bytes_said (meaning self.now.line)) (λ e. (None ≡ bytes_said (meaning self.now.line)) × (e ≡ NotBytes)) }
+        ensures { MatchResult result (λ b. Some b.now ≡ bytes_said (meaning self.now.line))
+            (λ e. (None ≡ bytes_said (meaning self.now.line)) × (e ≡ NotBytes)) }
     {
         match &self.bytes {
             Some(bytes) => Ok(bytes.as_slice()),

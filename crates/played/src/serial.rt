@@ -3,10 +3,10 @@ ghost use Rattle.std.specs.Prelude.{None};
 ghost use Rattle.played.specs.declared.dialect.Dialect.TheVariants.{Serializing};
 
 use crate::{Dialect, Played, Shown};
+use byte_transcript::{ByteGrindingChallenger, ByteTranscript};
 use domain::Domain;
-use serializing::SerializingChallenger32;
+use serializing_challenger::SerializingChallenger32;
 use std::alloc::{AllocError, Global};
-use transcript::{ByteGrindingChallenger, ByteTranscript};
 
 impl<D: Domain<ORDER>, T: ByteTranscript + Shown, const ORDER: u64> Shown
     for SerializingChallenger32<D, T, ORDER> {
@@ -29,7 +29,7 @@ impl<D: Domain<ORDER> + Copy, T: ByteGrindingChallenger + Shown + Copy, const OR
 
     ghost found = { λ k h n mask. None };
 
-    #[tactic(auto, using(crate::specs::PlainLaw::serial_alike))]
+    #[tactic(auto, using(crate::specs::PlainProofs::serial_alike))]
     fn dialect(&self) -> Dialect {
         Dialect::Serializing
     }

@@ -1,31 +1,33 @@
 // The challengers over a sponge.
 ghost use Rattle.std.specs.Prelude.{◌≡◌, ℕ, Some, None, Option};
 ghost use Rattle.sponge.specs.Sponge.{SpongeMake as SpongeMakeT};
-ghost use Rattle.sponge.specs.SpongeHeld.{of_make};
-ghost use Rattle.transcript.specs.Transcript.{sought};
-ghost use Rattle.duplex.specs.declared.held.DuplexHeld.{DuplexHeld as DuplexHeldT};
-ghost use Rattle.duplex.specs.Bytes.{byte_transcript};
-ghost use Rattle.duplex.specs.Holds.{held as duplex_held, making as duplex_making};
-ghost use Rattle.duplex.specs.Rules.{finalized as duplex_finalized};
-ghost use Rattle.multi_field.specs.Rules.{finalized as multi_finalized};
+ghost use Rattle.sponge.specs.SpongeHeld.{meaning_of_make};
+ghost use Rattle.byte_transcript.specs.Transcript.{least_candidate};
+ghost use Rattle.duplex_challenger.specs.declared.held.DuplexHeld.{DuplexHeld as DuplexHeldT};
+ghost use Rattle.duplex_challenger.specs.Bytes.{byte_transcript};
+ghost use Rattle.duplex_challenger.specs.Holds.{held_value as duplex_held};
+ghost use Rattle.duplex_challenger.specs.Holds.{make_meaning as duplex_making};
+ghost use Rattle.duplex_challenger.specs.Rules.{final_rate as duplex_finalized};
+ghost use Rattle.multi_field_challenger.specs.Rules.{final_rate as multi_finalized};
 ghost use Rattle.played.specs.declared.dialect.Dialect.TheVariants.{Codes};
 ghost use Rattle.played.specs.Permutations.{image as image_of};
 ghost use Rattle.played.specs.Shown.{duplex_words, multi_words, codes_words};
 
 use crate::{Dialect, Permutation, Played, Shown};
+use byte_transcript::ByteGrindingChallenger;
 use domain::{BabyBear, Bytes, Domain, Goldilocks, KoalaBear};
-use duplex::DuplexChallenger;
-use multi_field::MultiField32Challenger;
+use duplex_challenger::DuplexChallenger;
+use multi_field_challenger::MultiField32Challenger;
 use permutation::CryptographicPermutation;
 use printing::{Held, Listed};
 use std::alloc::{AllocError, Global};
-use transcript::ByteGrindingChallenger;
 
 impl<D: Domain<ORDER> + Copy, P: CryptographicPermutation<D, ORDER> + Copy, const ORDER: u64> Shown
     for DuplexChallenger<D, P, ORDER> {
     ghost shown = { duplex_words };
 
-    ghost ending = { λ m h. codes_words (duplex_finalized (of_make D.arithmetic P.image m) h) };
+    ghost ending = { λ m h. codes_words (duplex_finalized (meaning_of_make D.arithmetic P.image m)
+        h) };
 
     fn held(&self, heap: Global) -> Result<String, AllocError> {
         let held = Held {
@@ -42,13 +44,15 @@ impl<D: Domain<ORDER> + Copy, P: CryptographicPermutation<D, ORDER> + Copy, cons
     }
 }
 
-// Kept as an impl for each domain, here and below: a search asks that codes are bytes, and a method of a trait of domains, which took the challenger, had no proof made for its impls.
+// An impl for each domain: only over Bytes is there a search, which asks that codes are bytes.
 impl Played for DuplexChallenger<Bytes, Permutation, 256> {
     ghost speaks = { Codes };
 
-    ghost found = { λ m h n mask. Some (sought (byte_transcript (of_make ⟦<Bytes as Domain<256>>⟧.arithmetic (image_of ⟦<Bytes as Domain<256>>⟧.arithmetic) m)) h n mask) };
+    ghost found = { λ m h n mask. Some (least_candidate
+        (byte_transcript (meaning_of_make ⟦<Bytes as Domain<256>>⟧.arithmetic
+        (image_of ⟦<Bytes as Domain<256>>⟧.arithmetic) m)) h n mask) };
 
-    #[tactic(auto, using(crate::specs::PlainLaw::duplex_alike))]
+    #[tactic(auto, using(crate::specs::PlainProofs::duplex_alike))]
     fn dialect(&self) -> Dialect {
         Dialect::Codes
     }
@@ -63,7 +67,7 @@ impl Played for DuplexChallenger<BabyBear, Permutation, 2013265921> {
 
     ghost found = { λ m h n mask. None };
 
-    #[tactic(auto, using(crate::specs::PlainLaw::duplex_alike))]
+    #[tactic(auto, using(crate::specs::PlainProofs::duplex_alike))]
     fn dialect(&self) -> Dialect {
         Dialect::Codes
     }
@@ -78,7 +82,7 @@ impl Played for DuplexChallenger<KoalaBear, Permutation, 2130706433> {
 
     ghost found = { λ m h n mask. None };
 
-    #[tactic(auto, using(crate::specs::PlainLaw::duplex_alike))]
+    #[tactic(auto, using(crate::specs::PlainProofs::duplex_alike))]
     fn dialect(&self) -> Dialect {
         Dialect::Codes
     }
@@ -93,7 +97,7 @@ impl Played for DuplexChallenger<Goldilocks, Permutation, 18446744069414584321> 
 
     ghost found = { λ m h n mask. None };
 
-    #[tactic(auto, using(crate::specs::PlainLaw::duplex_alike))]
+    #[tactic(auto, using(crate::specs::PlainProofs::duplex_alike))]
     fn dialect(&self) -> Dialect {
         Dialect::Codes
     }
@@ -112,7 +116,8 @@ impl<
 > Shown for MultiField32Challenger<F, D, P, SAMPLED, ORDER> {
     ghost shown = { multi_words };
 
-    ghost ending = { λ m h. codes_words (multi_finalized SAMPLED (of_make D.arithmetic P.image m) h) };
+    ghost ending = { λ m h. codes_words (multi_finalized SAMPLED
+        (meaning_of_make D.arithmetic P.image m) h) };
 
     fn held(&self, heap: Global) -> Result<String, AllocError> {
         let held = Held {
@@ -141,7 +146,7 @@ impl<
 
     ghost found = { λ m h n mask. None };
 
-    #[tactic(auto, using(crate::specs::PlainLaw::multi_alike))]
+    #[tactic(auto, using(crate::specs::PlainProofs::multi_alike))]
     fn dialect(&self) -> Dialect {
         Dialect::Codes
     }

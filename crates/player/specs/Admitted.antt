@@ -1,5 +1,5 @@
--- The lines that can be read, and the answers that tell of others. Assumes nothing.
-use Rattle.std.specs.Prelude.{◌≡◌, ℕ, Bool, cond, List, [], ◌∷◌, Some, None, Option, is_some, codes, ◌==◌}
+-- The lines that can be read, and the answers that tell of others.
+use Rattle.std.specs.Prelude.{◌≡◌, ℕ, Bool, List, [], ◌∷◌, Some, None, Option, is_some, codes, ◌==◌, if◌then◌else◌}
 use Rattle.std.specs.List.{list_any, slice_split}
 use Rattle.std.specs.Str.{bytes_eq}
 use Rattle.script.specs.Grammar.{said_by}
@@ -14,7 +14,7 @@ readable text = is_some (said_by text)
 -- the number of the first line that cannot be read
 abbrev pub first_unread : List At → Option ℕ
 first_unread [] = None
-first_unread (l ∷ ls) = cond (readable l.1) (first_unread ls) (Some l.0)
+first_unread (l ∷ ls) = if readable l.1 then first_unread ls else Some l.0
 
 -- why a script is not rehearsed: that line, or short memory
 abbrev pub Names : Option ℕ → Stop → Type 0

@@ -1,2 +1,12 @@
+pub use Rattle.parts.specs.Hashes
+pub use Rattle.parts.specs.Helpers
+pub use Rattle.parts.specs.Scripts
+pub use Rattle.parts.specs.Sheets
+pub use Rattle.played.specs.Kinds
+pub use Rattle.played.specs.Requests
+pub use Rattle.played.specs.Voices
+pub use Rattle.rehearsal.specs.Lines
+pub use Rattle.rehearsal.specs.Tables
+pub use Rattle.script.specs.Grammar
 pub mod Admitted
 pub mod Spoken

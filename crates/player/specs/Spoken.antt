@@ -1,4 +1,4 @@
--- Why a script is not rehearsed, in words, as bytes. Assumes nothing.
+-- Why a script is not rehearsed, in words, as bytes.
 use Rattle.std.specs.Prelude.{ℕ, List, ◌++◌, Some, Option, codes, decimal}
 use Rattle.std.specs.Option.{option_map}
 use Rattle.script.specs.Spoken.{fault_words}

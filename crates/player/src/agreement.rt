@@ -11,10 +11,10 @@ use rehearsal::Table;
 use rehearsal::lines::{Numbered, split_lines};
 use script::{Fault, read_line};
 use std::alloc::{AllocError, Global};
-use std::fmt;
+use std::{error, fmt};
 
 /// Why a script is not rehearsed.
-#[derive(Clone, Copy)]
+#[derive(Clone, Copy, PartialEq, Eq, Debug)]
 pub enum Stop<'a> {
     /// A line that cannot be read.
     Unreadable(usize, Fault<'a>),
@@ -40,6 +40,8 @@ impl fmt::Display for Stop<'_> {
     }
 }
 
+impl error::Error for Stop<'_> {}
+
 /// Refuses the script at the first line that cannot be read.
 fn admit<'a>(heap: Global, lines: &[Numbered<'a>]) -> Result<(), Stop<'a>>
     ensures read { IfOk result (λ _. first_unread (lines_of lines.now) ≡ None) }
@@ -59,7 +61,8 @@ fn admit<'a>(heap: Global, lines: &[Numbered<'a>]) -> Result<(), Stop<'a>>
 pub fn agree<'a>(heap: Global, text: &'a str) -> Result<String, Stop<'a>>
     ensures readable { IfOk result (λ _. first_unread (numbered_lines text.entry.now) ≡ None) }
     ensures refused { IfErr result (Names (first_unread (numbered_lines text.entry.now))) }
-    ensures table { IfOk result (λ table. string_bytes table ≡ script tables (numbered_lines text.entry.now)) }
+    ensures table { IfOk result (λ table. string_bytes table
+        ≡ script tables (numbered_lines text.entry.now)) }
 {
     let lines = split_lines(heap, text)?;
     admit(heap, lines.as_slice())?;

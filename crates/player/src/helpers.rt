@@ -2,7 +2,7 @@
 ghost use Rattle.std.specs.Prelude.{◌≡◌, ◌≤◌};
 ghost use Rattle.parts.specs.Helpers.{order_of, pair_numbers};
 
-use bits::code_bits;
+use code_bits::code_bits;
 use packing::{greatest_power, limbs};
 use refusal::Refusal;
 use script::DomainName;

@@ -1,6 +1,6 @@
 // The play of a script, line by line.
 ghost use Rattle.std.specs.Prelude.{◌≡◌, ◌++◌, not, codes, IfOk, string_bytes};
-ghost use Rattle.interface.specs.Meaning.{Reply};
+ghost use Rattle.challenger_traits.specs.Meaning.{Reply};
 ghost use Rattle.script.specs.Meaning.{meaning, hash_parameters};
 ghost use Rattle.script.specs.Grammar.{said_by};
 ghost use Rattle.played.specs.Spoken.{unfit_words};
@@ -12,7 +12,8 @@ ghost use Rattle.rehearsal.specs.Tables.{ended};
 ghost use Rattle.player.specs.Admitted.{tells_bad_line};
 ghost use Rattle.parts.specs.Hashes.{named_digest};
 ghost use Rattle.parts.specs.Helpers.{pair_numbers};
-ghost use Rattle.parts.specs.Sheets.{find_words, digest_words, numbers_words, idle_kind, idle_said, idle, call_answer, kind_answer, line_answer, Answers};
+ghost use Rattle.parts.specs.Sheets.{find_words, digest_words, numbers_words, idle_kind, idle_said};
+ghost use Rattle.parts.specs.Sheets.{idle, call_answer, kind_answer, line_answer, Answers};
 ghost use Rattle.parts.specs.Scripts.{answers, script};
 
 use crate::helpers::pair_numbers;
@@ -51,7 +52,8 @@ pub struct Sheet {
 impl Sheet {
     /// Prints the answers, and the messages on standard error; tells whether no line was answered `bad-line`.
     pub fn print<R: Print + Eprint>(&self, rt: &R) -> io::Result<bool>
-        ensures { IfOk result (λ read. read ≡ not (tells_bad_line (string_bytes self.now.answers))) }
+        ensures { IfOk result (λ read. read ≡ not
+            (tells_bad_line (string_bytes self.now.answers))) }
     {
         rt.print(self.answers.as_str())?;
         rt.eprint(self.messages.as_str())?;
@@ -59,14 +61,14 @@ impl Sheet {
     }
 
     /// Where its text lies.
-    // Kept as a method of this type and of a table: each asks a field of its own.
     fn heap(&self) -> Global {
         *self.answers.allocator()
     }
 
     /// The answer in the place of a line that cannot be read, and the message.
     fn bad_line(&mut self, line: &Numbered<'_>, fault: Fault<'_>) -> Result<(), AllocError>
-        ensures { IfOk result (λ _. string_bytes self.new.answers ≡ string_bytes self.old.answers ++ ended (codes "bad-line")) }
+        ensures { IfOk result (λ _. string_bytes self.new.answers
+            ≡ string_bytes self.old.answers ++ ended (codes "bad-line")) }
     {
         let number = line.number;
         writeln!(self.answers, "bad-line")?;
@@ -75,7 +77,8 @@ impl Sheet {
 
     /// Answers a line that asks for a digest.
     fn hash(&mut self, asked: &HashParameters) -> Result<(), AllocError>
-        ensures { IfOk result (λ _. string_bytes self.new.answers ≡ string_bytes self.old.answers ++ ended (digest_words (hash_parameters asked.now))) }
+        ensures { IfOk result (λ _. string_bytes self.new.answers
+            ≡ string_bytes self.old.answers ++ ended (digest_words (hash_parameters asked.now))) }
     {
         let digest = digest_of(asked.hasher, asked.bytes.as_slice());
         let text = hex::encode(self.heap(), digest)?;
@@ -84,7 +87,9 @@ impl Sheet {
 
     /// Answers a line that asks for the numbers of a pair of domains.
     fn helpers(&mut self, sampled: DomainName, domain: DomainName) -> Result<(), AllocError>
-        ensures { IfOk result (λ _. string_bytes self.new.answers ≡ string_bytes self.old.answers ++ ended (numbers_words (pair_numbers sampled domain))) }
+        ensures { IfOk result (λ _. string_bytes self.new.answers
+            ≡ string_bytes self.old.answers ++ ended
+            (numbers_words (pair_numbers sampled domain))) }
     {
         match pair_numbers(sampled, domain) {
             Ok((bits, limbs, digits)) => writeln!(self.answers, "ok {bits} {limbs} {digits}"),
@@ -99,7 +104,10 @@ impl Sheet {
         candidates: u64,
         mask: u64,
     ) -> Result<(), AllocError>
-        ensures { IfOk result (λ _. string_bytes self.new.answers ≡ string_bytes self.old.answers ++ ended (find_words (C.found (C.make challenger.now) (C.held challenger.now) candidates mask))) }
+        ensures { IfOk result (λ _. string_bytes self.new.answers
+            ≡ string_bytes self.old.answers ++ ended
+            (find_words (C.found (C.make challenger.now) (C.held_value challenger.now) candidates
+            mask))) }
     {
         match challenger.find(candidates, mask) {
             Some(Some(candidate)) => writeln!(self.answers, "ok {candidate}"),
@@ -110,7 +118,8 @@ impl Sheet {
 
     /// Answers a line that does not fit the challenger. A limit in the wrong place is a fault of the line.
     fn unfit(&mut self, at: &Numbered<'_>, unfit: Unfit) -> Result<(), AllocError>
-        ensures { IfOk result (λ _. string_bytes self.new.answers ≡ string_bytes self.old.answers ++ ended (unfit_words unfit)) }
+        ensures { IfOk result (λ _. string_bytes self.new.answers
+            ≡ string_bytes self.old.answers ++ ended (unfit_words unfit)) }
     {
         writeln!(self.answers, "{unfit}")?;
         let number = at.number;
@@ -130,7 +139,10 @@ impl Sheet {
         at: &Numbered<'_>,
         line: Line,
     ) -> Result<(), AllocError>
-        ensures { IfOk result (λ _. Answers C.make C.held (string_bytes self.old.answers) (string_bytes self.new.answers) challenger.old challenger.new (call_answer (voice C.rule C.shown C.ending C.speaks C.found (C.make challenger.old)) (C.held challenger.old) (called C.speaks (meaning line)))) }
+        ensures { IfOk result (λ _. Answers C.make C.held_value (string_bytes self.old.answers)
+            (string_bytes self.new.answers) challenger.old challenger.new
+            (call_answer (voice C.rule C.shown C.ending C.speaks C.found (C.make challenger.old))
+            (C.held_value challenger.old) (called C.speaks (meaning line)))) }
     {
         let request = Request::new(self.heap(), line)?;
         match request.call(challenger.dialect()) {
@@ -147,7 +159,10 @@ impl Sheet {
         at: &Numbered<'_>,
         line: Line,
     ) -> Result<(), AllocError>
-        ensures { IfOk result (λ _. Answers C.make C.held (string_bytes self.old.answers) (string_bytes self.new.answers) challenger.old challenger.new (kind_answer (voice C.rule C.shown C.ending C.speaks C.found (C.make challenger.old)) (C.held challenger.old) (meaning line) (kind_of (meaning line)))) }
+        ensures { IfOk result (λ _. Answers C.make C.held_value (string_bytes self.old.answers)
+            (string_bytes self.new.answers) challenger.old challenger.new
+            (kind_answer (voice C.rule C.shown C.ending C.speaks C.found (C.make challenger.old))
+            (C.held_value challenger.old) (meaning line) (kind_of (meaning line)))) }
     {
         match line {
             Line::Held => {
@@ -167,7 +182,10 @@ impl Sheet {
         challenger: &mut C,
         line: &Numbered<'_>,
     ) -> Result<(), AllocError>
-        ensures { IfOk result (λ _. Answers C.make C.held (string_bytes self.old.answers) (string_bytes self.new.answers) challenger.old challenger.new (line_answer (voice C.rule C.shown C.ending C.speaks C.found (C.make challenger.old)) (line_of line.now) (C.held challenger.old))) }
+        ensures { IfOk result (λ _. Answers C.make C.held_value (string_bytes self.old.answers)
+            (string_bytes self.new.answers) challenger.old challenger.new
+            (line_answer (voice C.rule C.shown C.ending C.speaks C.found (C.make challenger.old))
+            (line_of line.now) (C.held_value challenger.old))) }
     {
         match read_line(self.heap(), line.text) {
             Ok(read) => self.answer(challenger, line, read),
@@ -183,7 +201,10 @@ impl Sheet {
         challenger: &mut C,
         lines: &[Numbered<'_>],
     ) -> Result<(), AllocError>
-        ensures { IfOk result (λ _. Answers C.make C.held (string_bytes self.old.answers) (string_bytes self.new.answers) challenger.old challenger.new (played (line_answer (voice C.rule C.shown C.ending C.speaks C.found (C.make challenger.old))) (C.held challenger.old) (lines_of lines.now))) }
+        ensures { IfOk result (λ _. Answers C.make C.held_value (string_bytes self.old.answers)
+            (string_bytes self.new.answers) challenger.old challenger.new
+            (played (line_answer (voice C.rule C.shown C.ending C.speaks C.found
+            (C.make challenger.old))) (C.held_value challenger.old) (lines_of lines.now))) }
     {
         for line in lines {
             self.play_line(challenger, line)?;
@@ -193,7 +214,9 @@ impl Sheet {
 
     /// Answers a finalize.
     fn finalize<C: Played>(&mut self, challenger: &C) -> Result<(), AllocError>
-        ensures { IfOk result (λ _. string_bytes self.new.answers ≡ string_bytes self.old.answers ++ ended (codes "ok " ++ C.ending (C.make challenger.now) (C.held challenger.now))) }
+        ensures { IfOk result (λ _. string_bytes self.new.answers
+            ≡ string_bytes self.old.answers ++ ended
+            (codes "ok " ++ C.ending (C.make challenger.now) (C.held_value challenger.now))) }
     {
         let digest = challenger.digest(self.heap())?;
         writeln!(self.answers, "ok {digest}")
@@ -201,14 +224,16 @@ impl Sheet {
 
     /// Answers a call where there is no challenger.
     fn absent(&mut self) -> Result<(), AllocError>
-        ensures { IfOk result (λ _. string_bytes self.new.answers ≡ string_bytes self.old.answers ++ ended (codes "no-challenger")) }
+        ensures { IfOk result (λ _. string_bytes self.new.answers
+            ≡ string_bytes self.old.answers ++ ended (codes "no-challenger")) }
     {
         writeln!(self.answers, "no-challenger")
     }
 
     /// Answers what a line asks for where there is no challenger.
     fn idle_kind(&mut self, line: &Line) -> Result<(), AllocError>
-        ensures { IfOk result (λ _. string_bytes self.new.answers ≡ string_bytes self.old.answers ++ idle_kind (kind_of (meaning line.now))) }
+        ensures { IfOk result (λ _. string_bytes self.new.answers
+            ≡ string_bytes self.old.answers ++ idle_kind (kind_of (meaning line.now))) }
     {
         match line {
             Line::Blank => Ok(()),
@@ -220,7 +245,8 @@ impl Sheet {
 
     /// Answers a line where there is no challenger.
     fn idle_line(&mut self, line: &Numbered<'_>) -> Result<(), AllocError>
-        ensures { IfOk result (λ _. string_bytes self.new.answers ≡ string_bytes self.old.answers ++ idle_said (said_by line.now.text.now)) }
+        ensures { IfOk result (λ _. string_bytes self.new.answers
+            ≡ string_bytes self.old.answers ++ idle_said (said_by line.now.text.now)) }
     {
         match read_line(self.heap(), line.text) {
             Ok(read) => self.idle_kind(&read),
@@ -231,7 +257,8 @@ impl Sheet {
 
     /// Answers lines where there is no challenger.
     fn idle_lines(&mut self, lines: &[Numbered<'_>]) -> Result<(), AllocError>
-        ensures { IfOk result (λ _. string_bytes self.new.answers ≡ string_bytes self.old.answers ++ idle (lines_of lines.now)) }
+        ensures { IfOk result (λ _. string_bytes self.new.answers
+            ≡ string_bytes self.old.answers ++ idle (lines_of lines.now)) }
     {
         for line in lines {
             self.idle_line(line)?;
@@ -273,7 +300,8 @@ impl Playing for Sheet {
 
 /// Plays a script.
 pub fn run(heap: Global, text: &str) -> Result<Sheet, AllocError>
-    ensures { IfOk result (λ sheet. string_bytes sheet.answers ≡ script answers (numbered_lines text.now)) }
+    ensures { IfOk result (λ sheet. string_bytes sheet.answers
+        ≡ script answers (numbered_lines text.now)) }
 {
     let lines = split_lines(heap, text)?;
     let mut sheet = Sheet {

@@ -1,4 +1,4 @@
--- What is printed, as bytes. Assumes nothing.
+-- What is printed, as bytes.
 use Rattle.std.specs.Prelude.{ℕ, List, [], ◌∷◌, ◌++◌, codes, decimal}
 use Rattle.std.specs.List.{flat_map}
 use Rattle.hex.specs.Hex.{encode_lower}

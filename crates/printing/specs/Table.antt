@@ -1,4 +1,4 @@
--- A row of the table as bytes. Assumes nothing.
+-- A row of the table as bytes.
 use Rattle.std.specs.Prelude.{ℕ, ◌-◌, ◌^◌, false, if◌then◌else◌, nat_le, List, [], ◌∷◌, ◌++◌, length, codes}
 use Rattle.std.specs.Fmt.{styled_text, styled_decimal}
 

@@ -39,7 +39,8 @@ fn cell<W: fmt::Write>(
     width: usize,
     next: usize,
 ) -> fmt::Result
-    ensures { DisplaysOnOk W.write_str_gives f.old result (Some (cell_text text.now width next)) f.new }
+    ensures { DisplaysOnOk W.write_str_gives f.old result
+        (Some (cell_text text.now width next)) f.new }
 {
     if text.len() <= width {
         write!(f, "{text:<width$}  ")
@@ -49,7 +50,17 @@ fn cell<W: fmt::Write>(
 }
 
 impl<L: fmt::Display> fmt::Display for Row<'_, L> {
-    ghost output = { λ r. option_map (λ line. line ++ cells_text r.call.now r.prover.now r.instead.now r.verifier.now) (L.styled_output r.line (record { fill = 32; align = 3; plus = false; alternate = false; zero = false; width = 4; precision = 2 ^ 64 - 1 })) };
+    ghost output = { λ r. option_map (λ line. line
+        ++ cells_text r.call.now r.prover.now r.instead.now r.verifier.now)
+        (L.styled_output r.line (record {
+          fill = 32;
+          align = 3;
+          plus = false;
+          alternate = false;
+          zero = false;
+          width = 4;
+          precision = 2 ^ 64 - 1;
+        })) };
 
     fn fmt<W: fmt::Write>(&self, f: &mut fmt::Formatter<W>) -> fmt::Result {
         let line = &self.line;

@@ -1,4 +1,4 @@
--- The number of each refusal, and the values that it carries. Assumes nothing.
+-- The number of each refusal, and the values that it carries.
 use Rattle.std.specs.Prelude.{ℕ, List, [], ◌∷◌}
 use Rattle.refusal.specs.declared.Refusal.{Refusal}
 use Rattle.refusal.specs.declared.Refusal.TheVariants.{Shape, SampledOrder, Orders, Batch, Rounds, InitialState, Bits, DrawLimit, Budget, NotCode, Room, NoWitness, NoDraw}
@@ -20,16 +20,8 @@ number (NoDraw last bound) = 26
 
 -- what the case carries, in order
 abbrev pub values : Refusal → List ℕ
-values Shape = []
-values SampledOrder = []
 values (Orders sampled sponge) = sampled ∷ sponge ∷ []
 values (Batch len most) = len ∷ most ∷ []
-values Rounds = []
-values InitialState = []
-values Bits = []
-values DrawLimit = []
-values Budget = []
-values NotCode = []
-values Room = []
 values (NoWitness trials) = trials ∷ []
 values (NoDraw last bound) = last ∷ bound ∷ []
+values _ = []

@@ -4,25 +4,28 @@
 ghost use Rattle.std.specs.Prelude.{◌≡◌, length, take, drop};
 ghost use Rattle.refusal.specs.Numbers.{number, values};
 
-mod display;
+use std::{error, fmt};
 
-#[derive(Clone, Copy, PartialEq, Eq, Debug)]
+pub mod limits;
+
+/// A failed question; the limits that the questions name are in `limits`.
+#[derive(Clone, Copy, PartialEq, Eq, Hash, Debug)]
 pub enum Refusal {
-    /// Is RATE at least 1 and below WIDTH, and WIDTH at most 64?
+    /// Is 1 ≤ RATE < WIDTH ≤ `WIDEST_ROW`?
     Shape,
-    /// Is the sampled order at most 2^32?
+    /// Is the sampled order at most 2^32, `GREATEST_SAMPLED_ORDER`?
     SampledOrder,
     /// Is the sampled order below the sponge order? It carries the two orders.
     Orders(u64, u64),
-    /// Is the batch length at most 255? It carries the batch length and 255.
+    /// Is the batch length at most `LONGEST_BATCH`? It carries the batch length and that limit.
     Batch(u64, u64),
-    /// Is the number of rounds 1 to 16?
+    /// Is the number of rounds 1 to `MOST_ROUNDS`?
     Rounds,
-    /// Has the initial state at most 1,024 bytes?
+    /// Has the initial state at most `LONGEST_INPUT` bytes?
     InitialState,
-    /// Is bits below 64, and 2^bits below the sampled order?
+    /// Is bits below `BITS_LIMIT`, and 2^bits below the sampled order?
     Bits,
-    /// Is the draw limit 1 to 65,535?
+    /// Is the draw limit 1 to `GREATEST_DRAW_LIMIT`?
     DrawLimit,
     /// Is the budget at most the sampled order?
     Budget,
@@ -37,7 +40,6 @@ pub enum Refusal {
 }
 
 impl Refusal {
-    // Kept as numbers: the rules and the scripts name each question by its number.
     /// The number of the question that was failed.
     pub fn number(&self) -> u64
         ensures { result ≡ number self.now }
@@ -59,7 +61,6 @@ impl Refusal {
         }
     }
 
-    // Kept as a lent array with a count: a call does not allocate, and that the rest of the array stays is promised.
     /// Writes the values that the case carries to the front of `out`, and says how many they are.
     pub fn values(&self, out: &mut [u64; 2]) -> usize
         ensures count { result ≡ length (values self.now) }
@@ -79,3 +80,25 @@ impl Refusal {
         }
     }
 }
+
+/// `no`, the number of the question, and the values that the case carries.
+impl fmt::Display for Refusal {
+    ghost use Rattle.std.specs.Prelude.{Some};
+    ghost use Rattle.refusal.specs.Spoken.{refusal_words};
+
+    ghost output = { λ e. Some (refusal_words e) };
+
+    fn fmt<W: fmt::Write>(&self, f: &mut fmt::Formatter<W>) -> fmt::Result {
+        let number = self.number();
+        match self {
+            Refusal::Orders(a, b) | Refusal::Batch(a, b) | Refusal::NoDraw(a, b) => write!(
+                f,
+                "no {number} {a} {b}"
+            ),
+            Refusal::NoWitness(a) => write!(f, "no {number} {a}"),
+            _ => write!(f, "no {number}"),
+        }
+    }
+}
+
+impl error::Error for Refusal {}

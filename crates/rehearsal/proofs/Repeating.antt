@@ -3,9 +3,9 @@ use Rattle.std.proofs.Common.{◌≡◌, ℕ, true, List, [], ◌∷◌, Some, N
 use Rattle.std.specs.Option.{option_map}
 use Rattle.runs.specs.declared.call.Call.{Call}
 use Rattle.runs.specs.declared.call.Call.TheVariants.{Observe, ObserveDigest, ObserveBytes, ObserveDigestBytes, ObserveDigestWords, Sample, SampleWithin, SampleBits, UniformBits, CheckWitness, Grind}
-use Rattle.runs.specs.declared.call.Answer.{Answer}
-use Rattle.runs.specs.declared.call.Answer.TheVariants.{Checked}
-use Rattle.runs.specs.Runs.{Rule, kind, witness, Stands, ChecksStand, for_grind, repeats, as_list}
+use Rattle.runs.specs.declared.answer.Answer.{Answer}
+use Rattle.runs.specs.declared.answer.Answer.TheVariants.{Checked}
+use Rattle.runs.specs.Runs.{Rule, kind, witness, Stands, ChecksStand, for_grind, calls_instead, as_list}
 use Rattle.rehearsal.specs.Tables.{as_grind, again_of, again, wanted_of, wanted}
 
 -- a value that is none is not some
@@ -53,7 +53,7 @@ module _ {Held : Type 0} (rule : Rule Held) (stands : ChecksStand rule) (h : Hel
   repeated_alike c e None l = absurd cc
   repeated_alike c e (Some r) l = let same : r ≡ c = cc in record { again_is = rw (e, same) refl; left_is = rw same refl }
 
-  pub repeated : (c : Call) (o : Option Call) → as_list o ≡ repeats (kind c) (rule h c).said → Repeated c o
+  pub repeated : (c : Call) (o : Option Call) → as_list o ≡ calls_instead (kind c) (rule h c).said → Repeated c o
   repeated (Observe xs) o l = repeated_alike _ refl o l
   repeated (ObserveDigest xs) o l = repeated_alike _ refl o l
   repeated (ObserveBytes xs) o l = repeated_alike _ refl o l

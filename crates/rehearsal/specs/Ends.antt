@@ -1,6 +1,6 @@
--- The two ends of a transcript. Assumes nothing.
-use Rattle.std.specs.Prelude.{◌≡◌, ℕ, Bool, true, List, ◌++◌}
-use Rattle.interface.specs.Meaning.{Reply}
+-- The two ends of a transcript.
+use Rattle.std.specs.Prelude.{◌≡◌, ℕ, Bool, List, ◌++◌, IsTrue}
+use Rattle.challenger_traits.specs.Meaning.{Reply}
 use Rattle.rehearsal.specs.declared.turns.Ends.{Ends}
 
 -- a challenger C, with what making it fixed and what it holds
@@ -14,6 +14,6 @@ module _ {C Make Held : Type 0} (make : C → Make) (held : C → Held) where
 
   -- lines were played on both ends: the two agree, this was written, and both are left with this
   pub record PlayedOn (k : Make) (r : Reply (List ℕ) Held) (before after : List ℕ) (ends : Ends C) (alike : Bool) : Type 0 where
-    pub agree : alike ≡ true
+    pub agree : IsTrue alike
     pub wrote : after ≡ before ++ r.said
     pub both : Both k r.left ends

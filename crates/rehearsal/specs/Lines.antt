@@ -1,8 +1,8 @@
--- The lines of a script. Assumes nothing.
-use Rattle.std.specs.Prelude.{ℕ, ◌+◌, ◌-◌, ◌^◌, min, Bool, cond, List, [], ◌∷◌, ◌++◌, map, codes, ◌==◌}
+-- The lines of a script.
+use Rattle.std.specs.Prelude.{ℕ, ◌+◌, ◌-◌, ◌^◌, min, Bool, List, [], ◌∷◌, ◌++◌, map, codes, ◌==◌, if◌then◌else◌}
 use Rattle.std.specs.List.{enumerate_from, slice_split}
 use Rattle.std.specs.Str.{bytes_eq}
-use Rattle.interface.specs.Meaning.{Reply, reply}
+use Rattle.challenger_traits.specs.Meaning.{Reply, reply}
 use Rattle.script.specs.Words.{first_word}
 use Rattle.rehearsal.specs.declared.lines.Numbered.{Numbered}
 use Rattle.rehearsal.specs.declared.lines.Part.{Part}
@@ -31,11 +31,11 @@ marks Finalize l = bytes_eq l.1 (codes "finalize")
 -- the lines before the first so marked, and those from it on
 abbrev pub before : Mark → List At → List At
 before m [] = []
-before m (l ∷ ls) = cond (marks m l) [] (l ∷ before m ls)
+before m (l ∷ ls) = if marks m l then [] else l ∷ before m ls
 
 abbrev pub from : Mark → List At → List At
 from m [] = []
-from m (l ∷ ls) = cond (marks m l) (l ∷ ls) (from m ls)
+from m (l ∷ ls) = if marks m l then l ∷ ls else from m ls
 
 -- a part: its first line, and those that follow
 abbrev pub PartText : Type 0

@@ -1,19 +1,19 @@
--- The table of the prover's and the verifier's run. Assumes nothing.
+-- The table of the prover's and the verifier's run.
 use Rattle.std.specs.Prelude.{ℕ, true, List, [], ◌∷◌, ◌++◌, Some, None, Ok, Err, Option, Result, codes, decimal}
 use Rattle.std.specs.Option.{option_map}
 use Rattle.refusal.specs.declared.Refusal.{Refusal}
 use Rattle.refusal.specs.Spoken.{refusal_words}
-use Rattle.interface.specs.Meaning.{Reply, reply}
+use Rattle.challenger_traits.specs.Meaning.{Reply, reply}
 use Rattle.runs.specs.declared.call.Call.{Call}
-use Rattle.runs.specs.declared.call.Call.TheVariants.{Observe, ObserveDigest, ObserveBytes, ObserveDigestBytes, ObserveDigestWords, Sample, SampleWithin, SampleBits, UniformBits, CheckWitness, Grind}
-use Rattle.runs.specs.declared.call.Answer.{Answer}
-use Rattle.runs.specs.declared.call.Answer.TheVariants.{Checked}
+use Rattle.runs.specs.declared.call.Call.TheVariants.{CheckWitness, Grind}
+use Rattle.runs.specs.declared.answer.Answer.{Answer}
+use Rattle.runs.specs.declared.answer.Answer.TheVariants.{Checked}
 use Rattle.runs.specs.Runs.{witness}
 use Rattle.runs.specs.Spoken.{answer_words}
 use Rattle.script.specs.Grammar.{Said, said_by}
 use Rattle.played.specs.declared.dialect.Unfit.{Unfit}
 use Rattle.played.specs.Requests.{called}
-use Rattle.played.specs.Kinds.{LineKind, kind_of, blank, call, find, held, hash_of, helpers, bound}
+use Rattle.played.specs.Kinds.{LineKind, kind_of, call, bound}
 use Rattle.played.specs.Spoken.{unfit_words}
 use Rattle.played.specs.Voices.{Voice}
 use Rattle.printing.specs.Table.{row_text, head_text}
@@ -37,30 +37,12 @@ same l answer = row l answer (codes "same") answer
 
 -- the bits and the budget of a grind, and the bits and the witness of a check
 abbrev pub as_grind : Call → Option (ℕ × ℕ)
-as_grind (Observe xs) = None
-as_grind (ObserveDigest xs) = None
-as_grind (ObserveBytes xs) = None
-as_grind (ObserveDigestBytes xs) = None
-as_grind (ObserveDigestWords xs) = None
-as_grind Sample = None
-as_grind (SampleWithin l) = None
-as_grind (SampleBits b) = None
-as_grind (UniformBits b l) = None
-as_grind (CheckWitness b w) = None
 as_grind (Grind b n) = Some (b, n)
+as_grind _ = None
 
 abbrev pub as_check : Call → Option (ℕ × ℕ)
-as_check (Observe xs) = None
-as_check (ObserveDigest xs) = None
-as_check (ObserveBytes xs) = None
-as_check (ObserveDigestBytes xs) = None
-as_check (ObserveDigestWords xs) = None
-as_check Sample = None
-as_check (SampleWithin l) = None
-as_check (SampleBits b) = None
-as_check (UniformBits b l) = None
 as_check (CheckWitness b w) = Some (b, w)
-as_check (Grind b n) = None
+as_check _ = None
 
 -- what the verifier calls in the place of a call that got this answer, and what it is answered: it repeats a call, checks the witness of a passed grind, and leaves a refused one out
 abbrev pub again_of : Option (ℕ × ℕ) → Call → Answer → Option (Call × Answer)
@@ -97,13 +79,9 @@ turn_row l c a = again_row l c a (again c a)
 
 -- without a challenger a call has a row, and so has a line that cannot be read
 abbrev pub absent_kind : At → LineKind → List ℕ
-absent_kind l blank = []
 absent_kind l call = same l (codes "no-challenger")
-absent_kind l (find n m) = []
-absent_kind l held = []
-absent_kind l (hash_of k) = []
-absent_kind l (helpers f d) = []
 absent_kind l bound = same l (codes "no-challenger")
+absent_kind l _ = []
 
 abbrev pub absent_said : At → Option Said → List ℕ
 absent_said l None = same l (codes "bad-line")

@@ -20,7 +20,7 @@ pub struct Part<'a> {
 }
 
 /// A line at which the lines before it end.
-#[derive(Clone, Copy)]
+#[derive(Clone, Copy, PartialEq, Eq, Debug)]
 pub enum Mark {
     Make,
     Finalize,

@@ -1,12 +1,15 @@
 // The table of the prover's and the verifier's run, side by side.
-ghost use Rattle.std.specs.Prelude.{◌≡◌, true, ◌++◌, codes, IfOk, string_bytes};
+ghost use Rattle.std.specs.Prelude.{◌≡◌, ◌++◌, codes, IfOk, string_bytes, IsTrue};
 ghost use Rattle.script.specs.Meaning.{meaning};
 ghost use Rattle.script.specs.Grammar.{said_by};
 ghost use Rattle.played.specs.Requests.{called};
 ghost use Rattle.played.specs.Kinds.{kind_of};
 ghost use Rattle.played.specs.Voices.{voice};
 ghost use Rattle.rehearsal.specs.Lines.{line_of, lines_of, part_of, played};
-ghost use Rattle.rehearsal.specs.Tables.{head, row, same, ended, again, as_grind, as_check, check_words, instead_words, turn_row, absent_kind, absent_said, absent, call_row, line_row, finish, table, refused_table, idle_table};
+ghost use Rattle.rehearsal.specs.Tables.{head, row, same, ended, again, as_grind, as_check};
+ghost use Rattle.rehearsal.specs.Tables.{check_words, instead_words, turn_row, absent_kind};
+ghost use Rattle.rehearsal.specs.Tables.{absent_said, absent, call_row, line_row, finish, table};
+ghost use Rattle.rehearsal.specs.Tables.{refused_table, idle_table};
 ghost use Rattle.rehearsal.specs.Ends.{Both, PlayedOn};
 
 use crate::lines::{Mark, Numbered, Part, split_before};
@@ -36,7 +39,8 @@ fn check_words(heap: Global, call: &Call<'_>) -> Result<String, AllocError>
 
 /// What the verifier called in the place of a call, in words.
 fn called_instead(heap: Global, call: &Call<'_>, repeated: &Call<'_>) -> Result<String, AllocError>
-    ensures { IfOk result (λ text. string_bytes text ≡ instead_words (as_grind call.now) repeated.now) }
+    ensures { IfOk result (λ text. string_bytes text
+        ≡ instead_words (as_grind call.now) repeated.now) }
 {
     match call {
         Call::Grind(_, _) => check_words(heap, repeated),
@@ -46,7 +50,6 @@ fn called_instead(heap: Global, call: &Call<'_>, repeated: &Call<'_>) -> Result<
 
 impl Table {
     /// Where its text lies.
-    // Kept as a method of this type and of a sheet: each asks a field of its own.
     fn heap(&self) -> Global {
         *self.text.allocator()
     }
@@ -59,7 +62,9 @@ impl Table {
         instead: &str,
         verifier: &str,
     ) -> Result<(), AllocError>
-        ensures { IfOk result (λ _. string_bytes self.new.text ≡ string_bytes self.old.text ++ row (line_of at.now) prover.now instead.now verifier.now) }
+        ensures { IfOk result (λ _. string_bytes self.new.text
+            ≡ string_bytes self.old.text ++ row (line_of at.now) prover.now instead.now
+            verifier.now) }
     {
         let row = Row {
             line: at.number,
@@ -73,14 +78,16 @@ impl Table {
 
     /// Writes a row in which both sides called the same, and got the same answer.
     fn same(&mut self, at: &Numbered<'_>, answer: &str) -> Result<(), AllocError>
-        ensures { IfOk result (λ _. string_bytes self.new.text ≡ string_bytes self.old.text ++ same (line_of at.now) answer.now) }
+        ensures { IfOk result (λ _. string_bytes self.new.text
+            ≡ string_bytes self.old.text ++ same (line_of at.now) answer.now) }
     {
         self.row(at, answer, "same", answer)
     }
 
     /// Writes the names of the columns, and the line that makes a challenger.
     fn begin(&mut self, make: &Numbered<'_>, answer: &str) -> Result<(), AllocError>
-        ensures { IfOk result (λ _. string_bytes self.new.text ≡ string_bytes self.old.text ++ (head ++ same (line_of make.now) answer.now)) }
+        ensures { IfOk result (λ _. string_bytes self.new.text
+            ≡ string_bytes self.old.text ++ (head ++ same (line_of make.now) answer.now)) }
     {
         writeln!(self.text, "{HEAD}")?;
         self.same(make, answer)
@@ -89,7 +96,9 @@ impl Table {
     /// Writes the row of a turn.
     fn turn(&mut self, at: &Numbered<'_>, turn: &Turn<'_>) -> Result<(), AllocError>
         requires again { turn.now.again ≡ again turn.now.call turn.now.proved }
-        ensures { IfOk result (λ _. string_bytes self.new.text ≡ string_bytes self.old.text ++ turn_row (line_of at.now) turn.now.call turn.now.proved) }
+        ensures { IfOk result (λ _. string_bytes self.new.text
+            ≡ string_bytes self.old.text ++ turn_row (line_of at.now) turn.now.call
+            turn.now.proved) }
     {
         let heap = self.heap();
         let proved = turn.proved.to_string(heap)?;
@@ -108,8 +117,13 @@ impl Table {
         at: &Numbered<'_>,
         request: &Request,
     ) -> Result<bool, AllocError>
-        requires both { Both C.make C.held (C.make ends.old.prover) (C.held ends.old.prover) ends.old }
-        ensures { IfOk result (PlayedOn C.make C.held (C.make ends.old.prover) (call_row (voice C.rule C.shown C.ending C.speaks C.found (C.make ends.old.prover)) (line_of at.now) (C.held ends.old.prover) (called C.speaks (meaning request.now.line))) (string_bytes self.old.text) (string_bytes self.new.text) ends.new) }
+        requires both { Both C.make C.held_value (C.make ends.old.prover)
+            (C.held_value ends.old.prover) ends.old }
+        ensures { IfOk result (PlayedOn C.make C.held_value (C.make ends.old.prover)
+            (call_row (voice C.rule C.shown C.ending C.speaks C.found (C.make ends.old.prover))
+            (line_of at.now) (C.held_value ends.old.prover)
+            (called C.speaks (meaning request.now.line))) (string_bytes self.old.text)
+            (string_bytes self.new.text) ends.new) }
     {
         match request.call(ends.prover.dialect()) {
             Ok(Some(call)) => {
@@ -128,8 +142,12 @@ impl Table {
 
     /// Plays a line on both ends.
     fn line<C: Played>(&mut self, ends: &mut Ends<C>, at: &Numbered<'_>) -> Result<bool, AllocError>
-        requires both { Both C.make C.held (C.make ends.old.prover) (C.held ends.old.prover) ends.old }
-        ensures { IfOk result (PlayedOn C.make C.held (C.make ends.old.prover) (line_row (voice C.rule C.shown C.ending C.speaks C.found (C.make ends.old.prover)) (line_of at.now) (C.held ends.old.prover)) (string_bytes self.old.text) (string_bytes self.new.text) ends.new) }
+        requires both { Both C.make C.held_value (C.make ends.old.prover)
+            (C.held_value ends.old.prover) ends.old }
+        ensures { IfOk result (PlayedOn C.make C.held_value (C.make ends.old.prover)
+            (line_row (voice C.rule C.shown C.ending C.speaks C.found (C.make ends.old.prover))
+            (line_of at.now) (C.held_value ends.old.prover)) (string_bytes self.old.text)
+            (string_bytes self.new.text) ends.new) }
     {
         match read_line(self.heap(), at.text) {
             Ok(line) => {
@@ -150,8 +168,12 @@ impl Table {
         ends: &mut Ends<C>,
         lines: &[Numbered<'_>],
     ) -> Result<bool, AllocError>
-        requires both { Both C.make C.held (C.make ends.old.prover) (C.held ends.old.prover) ends.old }
-        ensures { IfOk result (PlayedOn C.make C.held (C.make ends.old.prover) (played (line_row (voice C.rule C.shown C.ending C.speaks C.found (C.make ends.old.prover))) (C.held ends.old.prover) (lines_of lines.now)) (string_bytes self.old.text) (string_bytes self.new.text) ends.new) }
+        requires both { Both C.make C.held_value (C.make ends.old.prover)
+            (C.held_value ends.old.prover) ends.old }
+        ensures { IfOk result (PlayedOn C.make C.held_value (C.make ends.old.prover)
+            (played (line_row (voice C.rule C.shown C.ending C.speaks C.found
+            (C.make ends.old.prover))) (C.held_value ends.old.prover) (lines_of lines.now))
+            (string_bytes self.old.text) (string_bytes self.new.text) ends.new) }
     {
         let mut alike = true;
         for line in lines {
@@ -162,7 +184,9 @@ impl Table {
 
     /// Writes the row of what a line asks for where there is no challenger.
     fn absent_kind(&mut self, at: &Numbered<'_>, line: &Line) -> Result<(), AllocError>
-        ensures { IfOk result (λ _. string_bytes self.new.text ≡ string_bytes self.old.text ++ absent_kind (line_of at.now) (kind_of (meaning line.now))) }
+        ensures { IfOk result (λ _. string_bytes self.new.text
+            ≡ string_bytes self.old.text ++ absent_kind (line_of at.now)
+            (kind_of (meaning line.now))) }
     {
         match line {
             Line::Blank | Line::Held | Line::Find(_, _) | Line::HashOf(_) | Line::Helpers(_, _) => {
@@ -174,7 +198,9 @@ impl Table {
 
     /// Writes the row of a line where there is no challenger.
     fn absent_line(&mut self, at: &Numbered<'_>) -> Result<(), AllocError>
-        ensures { IfOk result (λ _. string_bytes self.new.text ≡ string_bytes self.old.text ++ absent_said (line_of at.now) (said_by at.now.text.now)) }
+        ensures { IfOk result (λ _. string_bytes self.new.text
+            ≡ string_bytes self.old.text ++ absent_said (line_of at.now)
+            (said_by at.now.text.now)) }
     {
         match read_line(self.heap(), at.text) {
             Ok(line) => self.absent_kind(at, &line),
@@ -185,7 +211,8 @@ impl Table {
 
     /// Writes the rows of lines where there is no challenger.
     fn absent(&mut self, lines: &[Numbered<'_>]) -> Result<(), AllocError>
-        ensures { IfOk result (λ _. string_bytes self.new.text ≡ string_bytes self.old.text ++ absent (lines_of lines.now)) }
+        ensures { IfOk result (λ _. string_bytes self.new.text
+            ≡ string_bytes self.old.text ++ absent (lines_of lines.now)) }
     {
         for line in lines {
             self.absent_line(line)?;
@@ -195,8 +222,12 @@ impl Table {
 
     /// Writes the row of a finalize; tells whether both digests are the same.
     fn digests<C: Played>(&mut self, ends: &Ends<C>, at: &Numbered<'_>) -> Result<bool, AllocError>
-        requires both { Both C.make C.held (C.make ends.now.prover) (C.held ends.now.prover) ends.now }
-        ensures { IfOk result (λ alike. (alike ≡ true) × (string_bytes self.new.text ≡ string_bytes self.old.text ++ same (line_of at.now) (codes "ok " ++ C.ending (C.make ends.now.prover) (C.held ends.now.prover)))) }
+        requires both { Both C.make C.held_value (C.make ends.now.prover)
+            (C.held_value ends.now.prover) ends.now }
+        ensures { IfOk result (λ alike. IsTrue alike
+            × (string_bytes self.new.text ≡ string_bytes self.old.text
+            ++ same (line_of at.now) (codes "ok "
+            ++ C.ending (C.make ends.now.prover) (C.held_value ends.now.prover)))) }
     {
         let heap = self.heap();
         let proved = ends.prover.digest(heap)?;
@@ -209,13 +240,17 @@ impl Table {
 
     /// Writes what both hold, or held before a finalize; tells whether it is the same.
     fn held<C: Played>(&mut self, ends: &Ends<C>, when: &str) -> Result<bool, AllocError>
-        requires both { Both C.make C.held (C.make ends.now.prover) (C.held ends.now.prover) ends.now }
-        ensures { IfOk result (λ alike. (alike ≡ true) × (string_bytes self.new.text ≡ string_bytes self.old.text ++ ended (when.now ++ (codes "both hold " ++ C.shown (C.held ends.now.prover))))) }
+        requires both { Both C.make C.held_value (C.make ends.now.prover)
+            (C.held_value ends.now.prover) ends.now }
+        ensures { IfOk result (λ alike. IsTrue alike
+            × (string_bytes self.new.text ≡ string_bytes self.old.text
+            ++ ended (when.now ++ (codes "both hold "
+            ++ C.shown (C.held_value ends.now.prover))))) }
     {
         let heap = self.heap();
         let prover = ends.prover.held(heap)?;
         let verifier = ends.verifier.held(heap)?;
-        // Kept beside the proof, which says that both are the same: what is printed is what was found.
+        // It is proved that both are the same; what is printed is still what was found.
         if prover.as_str() == verifier.as_str() {
             writeln!(self.text, "{when}both hold {prover}")?;
             return Ok(true);
@@ -231,8 +266,12 @@ impl Table {
         ends: &Ends<C>,
         lines: &[Numbered<'_>],
     ) -> Result<bool, AllocError>
-        requires both { Both C.make C.held (C.make ends.now.prover) (C.held ends.now.prover) ends.now }
-        ensures { IfOk result (λ alike. (alike ≡ true) × (string_bytes self.new.text ≡ string_bytes self.old.text ++ finish (voice C.rule C.shown C.ending C.speaks C.found (C.make ends.now.prover)) (C.held ends.now.prover) (lines_of lines.now))) }
+        requires both { Both C.make C.held_value (C.make ends.now.prover)
+            (C.held_value ends.now.prover) ends.now }
+        ensures { IfOk result (λ alike. IsTrue alike
+            × (string_bytes self.new.text ≡ string_bytes self.old.text
+            ++ finish (voice C.rule C.shown C.ending C.speaks C.found (C.make ends.now.prover))
+            (C.held_value ends.now.prover) (lines_of lines.now))) }
     {
         let Some((at, after)) = lines.split_first() else {
             return self.held(ends, "");
@@ -248,7 +287,10 @@ impl Table {
         fresh: C,
         part: &Part<'_>,
     ) -> Result<(), AllocError>
-        ensures { IfOk result (λ _. string_bytes self.new.text ≡ string_bytes self.old.text ++ table (voice C.rule C.shown C.ending C.speaks C.found (C.make fresh)) (C.held fresh) (part_of part.now)) }
+        ensures { IfOk result (λ _. string_bytes self.new.text
+            ≡ string_bytes self.old.text ++ table
+            (voice C.rule C.shown C.ending C.speaks C.found (C.make fresh)) (C.held_value fresh)
+            (part_of part.now)) }
     {
         self.begin(&part.make, "ok")?;
         let (before, after) = split_before(Mark::Finalize, part.lines);
@@ -268,7 +310,8 @@ impl Table {
 
     /// Writes the table of a part whose make was refused.
     pub fn refused(&mut self, refusal: &Refusal, part: &Part<'_>) -> Result<(), AllocError>
-        ensures { IfOk result (λ _. string_bytes self.new.text ≡ string_bytes self.old.text ++ refused_table refusal.now (part_of part.now)) }
+        ensures { IfOk result (λ _. string_bytes self.new.text
+            ≡ string_bytes self.old.text ++ refused_table refusal.now (part_of part.now)) }
     {
         let answer = refusal.to_string(self.heap())?;
         self.begin(&part.make, answer.as_str())?;
@@ -278,7 +321,8 @@ impl Table {
 
     /// Writes the table of a part for which no challenger was asked, if its lines have a row.
     pub fn unmade(&mut self, part: &Part<'_>) -> Result<(), AllocError>
-        ensures { IfOk result (λ _. string_bytes self.new.text ≡ string_bytes self.old.text ++ idle_table (part_of part.now)) }
+        ensures { IfOk result (λ _. string_bytes self.new.text
+            ≡ string_bytes self.old.text ++ idle_table (part_of part.now)) }
     {
         let mut rows = Table {
             text: String::new(self.heap()),

@@ -1,5 +1,5 @@
 // The prover's and the verifier's turns, one call at a time.
-ghost use Rattle.std.specs.Prelude.{◌≡◌, true};
+ghost use Rattle.std.specs.Prelude.{◌≡◌, IsTrue};
 ghost use Rattle.rehearsal.specs.Tables.{again, wanted};
 ghost use Rattle.rehearsal.specs.Ends.{Both};
 
@@ -29,7 +29,7 @@ impl Turn<'_> {
     #[tactic(auto, using(crate::proofs::Repeating::wanted_is))]
     pub fn agrees(&self) -> bool
         requires again { self.now.again ≡ again self.now.call self.now.proved }
-        ensures { result ≡ true }
+        ensures { IsTrue result }
     {
         match self.again {
             Some((_, said)) => said == wanted(&self.call, self.proved),
@@ -48,11 +48,15 @@ pub struct Ends<C> {
 impl<C: Played> Ends<C> {
     /// The prover makes a call, and the verifier repeats it; both held the same before, and do so after.
     pub fn turn<'a>(&mut self, call: &Call<'a>) -> Turn<'a>
-        requires both { Both C.make C.held (C.make self.old.prover) (C.held self.old.prover) self.old }
+        requires both { Both C.make C.held_value (C.make self.old.prover)
+            (C.held_value self.old.prover) self.old }
         ensures call { result.call ≡ call.now }
-        ensures proved { result.proved ≡ (C.rule (C.make self.old.prover) (C.held self.old.prover) call.now).said }
+        ensures proved { result.proved ≡ (C.rule (C.make self.old.prover)
+            (C.held_value self.old.prover) call.now).said }
         ensures again { result.again ≡ again call.now result.proved }
-        ensures both { Both C.make C.held (C.make self.old.prover) (C.rule (C.make self.old.prover) (C.held self.old.prover) call.now).left self.new }
+        ensures both { Both C.make C.held_value (C.make self.old.prover)
+            (C.rule (C.make self.old.prover) (C.held_value self.old.prover) call.now).left
+            self.new }
     {
         let proved = self.prover.call(call);
         let again = match instead(call, &proved) {

@@ -2,14 +2,14 @@
 use Rattle.std.proofs.Common.{◌≡◌, ℕ, [], ◌∷◌, None, refl}
 use Rattle.runs.specs.declared.call.Call.{Call}
 use Rattle.runs.specs.declared.call.Call.TheVariants.{Grind}
-use Rattle.runs.specs.declared.call.Answer.{Answer}
-use Rattle.runs.specs.declared.call.Answer.TheVariants.{Done, Code, Bits, Checked, Ground, Refused, Absent}
-use Rattle.runs.specs.Runs.{Kind, grinding, other, witness, repeats}
+use Rattle.runs.specs.declared.answer.Answer.{Answer}
+use Rattle.runs.specs.declared.answer.Answer.TheVariants.{Done, Code, Bits, Checked, Ground, Refused, Absent}
+use Rattle.runs.specs.Runs.{Kind, grinding, other, witness, calls_instead}
 
 -- a call that is no grind is repeated
-pub repeats-other : {c : Call} (k : Kind c) (a : Answer) → ((b n : ℕ) → c ≡ Grind b n → ⊥) → c ∷ [] ≡ repeats k a
-repeats-other (grinding b n) a no-grind = absurd (no-grind b n refl)
-repeats-other (other c) a no-grind = refl
+pub calls_instead-other : {c : Call} (k : Kind c) (a : Answer) → ((b n : ℕ) → c ≡ Grind b n → ⊥) → c ∷ [] ≡ calls_instead k a
+calls_instead-other (grinding b n) a no-grind = absurd (no-grind b n refl)
+calls_instead-other (other c) a no-grind = refl
 
 -- an answer that tells no witness
 pub no_witness : (a : Answer) → ((w t : ℕ) → a ≡ Ground w t → ⊥) → witness a ≡ None

@@ -1,4 +1,5 @@
+pub use Rattle.challenger_traits.specs.Meaning
 pub mod Answers
 pub mod Runs
-pub mod RunLaws
+pub mod RunsProofs
 pub mod Spoken

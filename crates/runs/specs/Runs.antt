@@ -1,10 +1,10 @@
 -- Runs of calls, and how a verifier repeats a prover's.
 use Rattle.std.specs.Prelude.{◌≡◌, ℕ, Bool, true, ◌&&◌, List, [], ◌∷◌, ◌++◌, length, Some, None, Option, ◌==◌}
-use Rattle.interface.specs.Meaning.{Reply, reply}
+use Rattle.challenger_traits.specs.Meaning.{Reply, reply}
 use Rattle.runs.specs.declared.call.Call.{Call}
-use Rattle.runs.specs.declared.call.Call.TheVariants.{Observe, ObserveDigest, ObserveBytes, ObserveDigestBytes, ObserveDigestWords, Sample, SampleWithin, SampleBits, UniformBits, CheckWitness, Grind}
-use Rattle.runs.specs.declared.call.Answer.{Answer}
-use Rattle.runs.specs.declared.call.Answer.TheVariants.{Done, Code, Bits, Checked, Ground, Refused, Absent}
+use Rattle.runs.specs.declared.call.Call.TheVariants.{CheckWitness, Grind}
+use Rattle.runs.specs.declared.answer.Answer.{Answer}
+use Rattle.runs.specs.declared.answer.Answer.TheVariants.{Checked, Ground}
 
 -- what each call says and leaves, on the present value
 abbrev pub Rule : Type 0 → Type 0
@@ -16,27 +16,13 @@ pub data Kind : Call → Type 0 where
   other : (c : Call) → Kind c
 
 abbrev pub kind : (c : Call) → Kind c
-kind (Observe xs) = other (Observe xs)
-kind (ObserveDigest xs) = other (ObserveDigest xs)
-kind (ObserveBytes xs) = other (ObserveBytes xs)
-kind (ObserveDigestBytes xs) = other (ObserveDigestBytes xs)
-kind (ObserveDigestWords xs) = other (ObserveDigestWords xs)
-kind Sample = other Sample
-kind (SampleWithin l) = other (SampleWithin l)
-kind (SampleBits b) = other (SampleBits b)
-kind (UniformBits b l) = other (UniformBits b l)
-kind (CheckWitness b w) = other (CheckWitness b w)
 kind (Grind b n) = grinding b n
+kind c = other c
 
 -- the witness of a passed grind
 abbrev pub witness : Answer → Option ℕ
-witness Done = None
-witness (Code x) = None
-witness (Bits x) = None
-witness (Checked v) = None
 witness (Ground w t) = Some w
-witness (Refused e) = None
-witness Absent = None
+witness _ = None
 
 module _ {Held : Type 0} (rule : Rule Held) where
   -- a check in a grind's place, by the grind's witness, and what the grind left
@@ -52,28 +38,28 @@ module _ {Held : Type 0} (rule : Rule Held) where
   answers h [] = []
   answers h (c ∷ cs) = (rule h c).said ∷ answers (rule h c).left cs
 
-  abbrev pub ends : Held → List Call → Held
-  ends h [] = h
-  ends h (c ∷ cs) = ends (rule h c).left cs
+  abbrev pub value_after : Held → List Call → Held
+  value_after h [] = h
+  value_after h (c ∷ cs) = value_after (rule h c).left cs
 
   -- a run: from h, these calls were answered so, and left g
   pub record Run (h : Held) (cs : List Call) (xs : List Answer) (g : Held) : Type 0 where
     pub said : xs ≡ answers h cs
-    pub left : g ≡ ends h cs
+    pub left : g ≡ value_after h cs
 
 -- what the verifier calls in the place of a call, given the prover's answer
 abbrev pub for_grind : ℕ → Option ℕ → List Call
 for_grind b (Some w) = CheckWitness b w ∷ []
 for_grind b None = []
 
-abbrev pub repeats : {c : Call} → Kind c → Answer → List Call
-repeats (grinding b n) a = for_grind b (witness a)
-repeats (other c) a = c ∷ []
+abbrev pub calls_instead : {c : Call} → Kind c → Answer → List Call
+calls_instead (grinding b n) a = for_grind b (witness a)
+calls_instead (other c) a = c ∷ []
 
-abbrev pub repeated : List Call → List Answer → List Call
-repeated [] xs = []
-repeated (c ∷ cs) [] = []
-repeated (c ∷ cs) (a ∷ xs) = repeats (kind c) a ++ repeated cs xs
+abbrev pub repeated_calls : List Call → List Answer → List Call
+repeated_calls [] xs = []
+repeated_calls (c ∷ cs) [] = []
+repeated_calls (c ∷ cs) (a ∷ xs) = calls_instead (kind c) a ++ repeated_calls cs xs
 
 -- the prover's calls and answers, and the verifier's that repeat them
 pub data Repeats : List Call → List Answer → List Call → List Answer → Type 0 where
@@ -91,9 +77,9 @@ abbrev pub SameRules : {Held : Type 0} → Rule Held → Rule Held → Type 0
 SameRules {Held} prover verifier = (h : Held) (c : Call) → prover h c ≡ verifier h c
 
 -- two challengers of one make: each call means the same to both, and fresh they hold the same
-pub record OneMake {Held : Type 0} (prover verifier : Rule Held) (prover-fresh verifier-fresh : Held) : Type 0 where
+pub record OneMake {Held : Type 0} (prover verifier : Rule Held) (prover-fresh_value verifier-fresh_value : Held) : Type 0 where
   pub rules : SameRules prover verifier
-  pub fresh : prover-fresh ≡ verifier-fresh
+  pub fresh_value : prover-fresh_value ≡ verifier-fresh_value
 
 -- agreement: the verifier repeated the prover's run, and both hold the same
 pub record Agree {Held : Type 0} (calls : List Call) (proved : List Answer) (again : List Call) (said : List Answer) (prover verifier : Held) : Type 0 where
@@ -101,15 +87,15 @@ pub record Agree {Held : Type 0} (calls : List Call) (proved : List Answer) (aga
   pub same_held : verifier ≡ prover
 
 -- both runs of one list of calls, from p₀ and v₀ to p₁ and v₁; of one make and fresh, the two agree, and so they do from any value that both hold, as one made with initial bytes
-pub record Rehearsed {Held : Type 0} (prover verifier : Rule Held) (prover-fresh verifier-fresh p₀ v₀ p₁ v₁ : Held) (calls : List Call) (proved said : List Answer) : Type 0 where
+pub record Rehearsed {Held : Type 0} (prover verifier : Rule Held) (prover-fresh_value verifier-fresh_value p₀ v₀ p₁ v₁ : Held) (calls : List Call) (proved said : List Answer) : Type 0 where
   pub proves : Run prover p₀ calls proved p₁
-  pub verifies : Run verifier v₀ (repeated calls proved) said v₁
-  pub agrees : OneMake prover verifier prover-fresh verifier-fresh → p₀ ≡ prover-fresh → v₀ ≡ verifier-fresh → Agree calls proved (repeated calls proved) said p₁ v₁
-  pub agrees_from : SameRules prover verifier → p₀ ≡ v₀ → Agree calls proved (repeated calls proved) said p₁ v₁
+  pub verifies : Run verifier v₀ (repeated_calls calls proved) said v₁
+  pub agrees : OneMake prover verifier prover-fresh_value verifier-fresh_value → p₀ ≡ prover-fresh_value → v₀ ≡ verifier-fresh_value → Agree calls proved (repeated_calls calls proved) said p₁ v₁
+  pub agrees_from : SameRules prover verifier → p₀ ≡ v₀ → Agree calls proved (repeated_calls calls proved) said p₁ v₁
 
 -- do the places for answers number as many as the calls?
-abbrev pub places : List Call → List Answer → List Answer → Bool
-places calls proved said = length proved == length calls && length said == length calls
+abbrev pub has_places : List Call → List Answer → List Answer → Bool
+has_places calls proved said = length proved == length calls && length said == length calls
 
 abbrev pub as_list : {X : Type 0} → Option X → List X
 as_list None = []

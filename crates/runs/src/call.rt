@@ -1,8 +1,7 @@
-// The calls of a challenger, and what a call answers.
-use refusal::Refusal;
+// The calls of a challenger.
 
 /// One call.
-#[derive(Clone, Copy)]
+#[derive(Clone, Copy, PartialEq, Eq, Debug)]
 pub enum Call<'a> {
     Observe(&'a [u64]),
     ObserveDigest(&'a [u64]),
@@ -21,18 +20,4 @@ pub enum Call<'a> {
     CheckWitness(u64, u64),
     /// Bits and the budget.
     Grind(u64, u64),
-}
-
-/// What a call answers.
-#[derive(Clone, Copy, PartialEq, Eq, Debug)]
-pub enum Answer {
-    Done,
-    Code(u64),
-    Bits(u64),
-    Checked(bool),
-    /// The witness and the trials.
-    Ground(u64, u64),
-    Refused(Refusal),
-    /// The challenger has no such call.
-    Absent,
 }

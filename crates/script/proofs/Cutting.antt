@@ -1,4 +1,4 @@
--- Where a text is cut into its first word and the rest. Assumes nothing.
+-- Where a text is cut into its first word and the rest.
 use Rattle.std.proofs.Common.{◌≡◌, ℕ, suc, false, eqb, List, [], ◌∷◌, ◌++◌, Some, None, refl, ap, suc-le-suc, zero-le}
 use Rattle.std.proofs.lemmas.Bool.{ne_eqb}
 use Rattle.std.specs.Str.Iter.{LacksByte}

@@ -1,5 +1,5 @@
--- What a number, a name and a row of numbers are read as. Assumes nothing.
-use Rattle.std.proofs.Common.{◌≡◌, ℕ, ◌^◌, ◌<◌, Bool, true, false, cond, eqb, List, [], ◌∷◌, ◌++◌, length, Some, None, Ok, Err, Option, Result, refl, ap, inl, inr}
+-- What a number, a name and a row of numbers are read as.
+use Rattle.std.proofs.Common.{◌≡◌, ℕ, ◌^◌, ◌<◌, Bool, true, false, if◌then◌else◌, eqb, List, [], ◌∷◌, ◌++◌, length, Some, None, Ok, Err, Option, Result, refl, ap, inl, inr}
 use Rattle.std.proofs.lemmas.Slice.Eq.{bytes_eq-Decides}
 use Rattle.std.proofs.lemmas.Bool.{cond_both, cases_Bool, and_from, and_parts, lt-ltb, ltb-true}
 use Rattle.std.specs.Result.{OkIff, MatchResult, IsErrAnd, result_ok}
@@ -31,7 +31,7 @@ pub words-first : (t : List ℕ) → words t ≡ first_word t ∷ words_of (afte
 words-first [] = refl
 words-first (c ∷ cs) = first (eqb c 32) (words-first cs)
   where
-    first : (b : Bool) → words cs ≡ first_word cs ∷ words_of (after_word cs) → cond b ([] ∷ words cs) (begun c (words cs)) ≡ cond b [] (c ∷ first_word cs) ∷ words_of (cond b (Some cs) (after_word cs))
+    first : (b : Bool) → words cs ≡ first_word cs ∷ words_of (after_word cs) → (if b then [] ∷ words cs else begun c (words cs)) ≡ (if b then [] else c ∷ first_word cs) ∷ words_of (if b then Some cs else after_word cs)
     first true h = refl
     first false h = ap (begun c) h
 

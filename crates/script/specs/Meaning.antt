@@ -1,4 +1,4 @@
--- What a line that was read says. Assumes nothing.
+-- What a line that was read says.
 use Rattle.std.specs.Prelude.{◌≡◌, ℕ, ◌⊎◌, List, Some, None, vec_items, Option, Result, MatchResult}
 use Rattle.std.specs.Option.{option_map}
 use Rattle.script.specs.declared.Fault.{Fault}

@@ -1,4 +1,4 @@
--- Why a line cannot be read, in words, as bytes. Assumes nothing.
+-- Why a line cannot be read, in words, as bytes.
 use Rattle.std.specs.Prelude.{ℕ, List, ◌++◌, Some, Option, codes}
 use Rattle.std.specs.Option.{option_map}
 use Rattle.std.specs.Fmt.{debug_str}

@@ -1,22 +1,26 @@
 //! The lines of a script: one call of a challenger each, read from text.
 #![tactic(auto)]
 
-ghost use Rattle.std.specs.Prelude.{◌≡◌, Some, vec_items, codes, Decides};
+ghost use Rattle.std.specs.Prelude.{◌≡◌, Some, vec_items, codes, ◌↔◌, IsTrue};
 ghost use Rattle.std.specs.Option.{option_map};
 ghost use Rattle.std.specs.Result.{result_ok};
 ghost use Rattle.std.specs.Iterator.{YieldsFirstRef, item_count};
 ghost use Rattle.script.specs.declared.Fault.TheVariants.{Memory};
-ghost use Rattle.script.specs.Words.{first_word, after_word, words_of, number_of, one_of, two_of, optional_of, numbers_of, bytes_of, entry};
-ghost use Rattle.script.specs.Grammar.{domain_of, permutation_of, hasher_of, domain_first, domains_first, sponge_of, hashed_of, duplex_of, multi_of, below, serial_of, make_of, helpers_of, hash_of, nothing_of, pairs, calls, line_of, said_by};
+ghost use Rattle.script.specs.Words.{first_word, after_word, words_of, number_of, one_of, two_of};
+ghost use Rattle.script.specs.Words.{optional_of, numbers_of, bytes_of, entry};
+ghost use Rattle.script.specs.Grammar.{domain_of, permutation_of, hasher_of, domain_first};
+ghost use Rattle.script.specs.Grammar.{domains_first, sponge_of, hashed_of, duplex_of, multi_of};
+ghost use Rattle.script.specs.Grammar.{below, serial_of, make_of, helpers_of, hash_of, nothing_of};
+ghost use Rattle.script.specs.Grammar.{pairs, calls, line_of, said_by};
 ghost use Rattle.script.specs.Meaning.{meaning, hash_parameters, left, Gives};
 ghost use Rattle.script.specs.Spoken.{fault_words};
 
 use hex::FromHexError;
 use std::alloc::{AllocFailed, Global};
-use std::fmt;
+use std::{error, fmt};
 
 /// The domain that a challenger works over.
-#[derive(Clone, Copy)]
+#[derive(Clone, Copy, PartialEq, Eq, Debug)]
 pub enum DomainName {
     Bytes,
     BabyBear,
@@ -25,21 +29,21 @@ pub enum DomainName {
 }
 
 /// The permutation of a sponge; a ladder has a number of rounds.
-#[derive(Clone, Copy)]
+#[derive(Clone, Copy, PartialEq, Eq, Debug)]
 pub enum PermutationName {
     Mirror,
     Ladder(u64),
 }
 
 /// A hash function.
-#[derive(Clone, Copy)]
+#[derive(Clone, Copy, PartialEq, Eq, Debug)]
 pub enum HasherName {
     Sha256,
     Sha3_256,
 }
 
 /// What a sponge is made of.
-#[derive(Clone, Copy)]
+#[derive(Clone, Copy, PartialEq, Eq, Debug)]
 pub struct SpongeParameters {
     pub permutation: PermutationName,
     pub width: u64,
@@ -47,14 +51,14 @@ pub struct SpongeParameters {
 }
 
 /// A hash function, and bytes for it: those that a hash challenger begins with, or those whose digest is asked for.
-#[derive(Drop)]
+#[derive(PartialEq, Eq, Debug, Drop)]
 pub struct HashParameters {
     pub hasher: HasherName,
     pub bytes: Vec<u8>,
 }
 
 /// What one line asks for.
-#[derive(Drop)]
+#[derive(PartialEq, Eq, Debug, Drop)]
 pub enum Line {
     /// An empty line, or one that starts with `#`.
     Blank,
@@ -88,7 +92,7 @@ pub enum Line {
 }
 
 /// Why a line cannot be read, with the word that was not understood.
-#[derive(Clone, Copy)]
+#[derive(Clone, Copy, PartialEq, Eq, Debug)]
 pub enum Fault<'a> {
     Spacing,
     UnknownCall(&'a str),
@@ -132,6 +136,8 @@ impl fmt::Display for Fault<'_> {
         }
     }
 }
+
+impl error::Error for Fault<'_> {}
 
 /// What follows a word, if something does.
 #[derive(Clone, Copy)]
@@ -285,7 +291,8 @@ impl<'a> Rest<'a> {
 
     /// The line itself, if nothing follows.
     fn nothing(self, line: Line) -> Result<Line, Fault<'a>>
-        ensures { option_map meaning (result_ok result) ≡ nothing_of (left self.entry) (meaning line) }
+        ensures { option_map meaning (result_ok result)
+            ≡ nothing_of (left self.entry) (meaning line) }
     {
         match self.text {
             Some(_) => Err(Fault::TooMany),
@@ -295,7 +302,8 @@ impl<'a> Rest<'a> {
 
     /// A domain, and what follows it.
     fn domain(self) -> Result<(DomainName, Rest<'a>), Fault<'a>>
-        ensures { option_map (λ (p : DomainName × Rest). (p.0, left p.1)) (result_ok result) ≡ domain_first (left self.entry) }
+        ensures { option_map (λ (p : DomainName × Rest). (p.0, left p.1)) (result_ok result)
+            ≡ domain_first (left self.entry) }
     {
         let (word, rest) = cut(self.text.ok_or(Fault::TooFew)?);
         Ok((DomainName::try_from(word)?, rest))
@@ -303,7 +311,8 @@ impl<'a> Rest<'a> {
 
     /// Two domains, and what follows them.
     fn domains(self) -> Result<(DomainName, DomainName, Rest<'a>), Fault<'a>>
-        ensures { option_map (λ (p : DomainName × DomainName × Rest). (p.0, p.1, left p.2)) (result_ok result) ≡ domains_first (left self.entry) }
+        ensures { option_map (λ (p : DomainName × DomainName × Rest). (p.0, p.1, left p.2))
+            (result_ok result) ≡ domains_first (left self.entry) }
     {
         let (sampled, rest) = self.domain()?;
         let (domain, rest) = rest.domain()?;
@@ -435,7 +444,6 @@ impl<'a> Rest<'a> {
 }
 
 /// What a line says, by its first word.
-// Kept as matches on a word, here and above: the arms are the grammar's own table.
 fn read_words(heap: Global, text: &str) -> Result<Line, Fault<'_>>
     ensures { Gives meaning (entry (first_word text.now) (line_of text.now)) result }
 {
@@ -467,7 +475,6 @@ pub fn read_line(heap: Global, text: &str) -> Result<Line, Fault<'_>>
     if text.is_empty() || text.starts_with('#') {
         return Ok(Line::Blank);
     }
-    // Kept as a match: the check doesn't cover a closure over the text and a fault for `map_err`.
     match read_words(heap, text) {
         Ok(line) => Ok(line),
         Err(fault) => Err(respaced(text, fault)),
@@ -476,7 +483,7 @@ pub fn read_line(heap: Global, text: &str) -> Result<Line, Fault<'_>>
 
 /// Whether a line, readable or not, begins with the word `make`: it ends the challenger before it.
 pub fn begins_make(text: &str) -> bool
-    ensures { Decides result (first_word text.now ≡ codes "make") }
+    ensures { IsTrue result ↔ (first_word text.now ≡ codes "make") }
 {
     cut(text).0 == "make"
 }

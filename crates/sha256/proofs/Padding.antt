@@ -5,7 +5,7 @@ use Rattle.std.specs.Simd.{first_chunks}
 use Rattle.std.proofs.lemmas.List.{append_assoc, length-append, length-replicate, take_at, replicate-append-replicate}
 use Rattle.std.proofs.lemmas.List.Edits.{paste_all}
 use Rattle.hasher.proofs.Blocks.{chunked-++}
-use Rattle.sha256.specs.Sha256.{be64, ending, padded, blocks}
+use Rattle.sha256.specs.Sha256.{be64, ending, padded_message, blocks}
 
 zeros-left : (size end n : ℕ) → n + 9 ≤ end → end ≤ size → size - 1 - n ≡ end - 9 - n + (size + 8 - end)
 zeros-left size end n lo hi = omega arith
@@ -56,19 +56,19 @@ last_is rest mid bits last end len lo hi p q r =
     ∙ filled 128 rest (be64 (8 * len)) end lo hi refl
 
 -- the whole blocks of the message, and then those of what is left of it with the ending, are the blocks of the padded message
-pub blocks-padded : (m rest last : List ℕ) (whole tail : List (List ℕ)) (end : ℕ)
+pub blocks-padded_message : (m rest last : List ℕ) (whole tail : List (List ℕ)) (end : ℕ)
     → rest ≡ drop (length m / 64 * 64) m → last ≡ rest ++ ending (end - 9 - length rest) (length m)
     → whole ≡ first_chunks 64 (length m / 64) m → tail ≡ first_chunks 64 (length last / 64) last
     → length rest + 9 ≤ end → end - 9 - length rest ≡ (119 - length m % 64) % 64
     → (length m + (9 + (119 - length m % 64) % 64)) / 64 ≡ length m / 64 + end / 64
-    → whole ++ tail ≡ blocks (padded m)
-unfolding padded ending
-blocks-padded m rest last whole tail end r l w t lo z count =
+    → whole ++ tail ≡ blocks (padded_message m)
+unfolding padded_message ending
+blocks-padded_message m rest last whole tail end r l w t lo z count =
     let q = length m / 64 in
     let zs = (119 - length m % 64) % 64 in
-    let len : length (padded m) ≡ length m + (9 + zs) = simp (length-append, length-replicate) (omega arith) in
+    let len : length (padded_message m) ≡ length m + (9 + zs) = simp (length-append, length-replicate) (omega arith) in
     let size : length last ≡ end = ap length l ∙ simp (length-append, length-replicate) (omega arith) in
     let same : last ≡ drop (q * 64) m ++ ending zs (length m) = l ∙ ap₂ (λ xs i. xs ++ ending i (length m)) r z in
     ap₂ ◌++◌ w (t ∙ ap₂ (λ i xs. first_chunks 64 (i / 64) xs) size same)
     ∙ sym (chunked-++ 64 q (end / 64) m (ending zs (length m)) (omega arith))
-    ∙ sym (ap (λ i. first_chunks 64 i (padded m)) (ap (λ i. i / 64) len ∙ count))
+    ∙ sym (ap (λ i. first_chunks 64 i (padded_message m)) (ap (λ i. i / 64) len ∙ count))

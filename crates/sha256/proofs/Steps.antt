@@ -3,7 +3,7 @@ use Rattle.std.proofs.Common.{◌≡◌, ℕ, suc, ◌+◌, ◌-◌, ◌<◌, �
 use Rattle.std.proofs.lemmas.List.{take_more_set, get_or-take, take_all, length-take-le, length-set}
 use Rattle.std.proofs.lemmas.List.FromFn.{fill_by_all}
 use Rattle.sha256.specs.declared.Words.{Words}
-use Rattle.sha256.specs.Sha256.{K, round, rounds, schedule, extended, next, word, words}
+use Rattle.sha256.specs.Sha256.{K, round, rounds, schedule, with_next_word, next, word, words}
 
 pub more_rounds : (ws : List ℕ) (s : Words) (t u : ℕ) (v v' : Words)
     → v ≡ rounds t ws s → v' ≡ round (get_or K t 0) (get_or ws t 0) v → suc t ≡ u → v' ≡ rounds u ws s
@@ -36,7 +36,7 @@ more_words m w w' t u (n, p) h e up =
     let at : i ≡ 16 + t = omega arith in
     let one : u + 16 ≡ i + 1 = omega arith in
     let more : take (i + 1) (set w i x) ≡ schedule (suc t) m =
-    take_more_set w i x (omega arith) ∙ ap (λ y. take i w ++ y ∷ []) (sym (next-take w i (omega arith))) ∙ ap₂ extended p at in
+    take_more_set w i x (omega arith) ∙ ap (λ y. take i w ++ y ∷ []) (sym (next-take w i (omega arith))) ∙ ap₂ with_next_word p at in
     (ap length e ∙ length-set w i x ∙ n, ap₂ take one e ∙ more ∙ ap (λ j. schedule j m) up)
 
 -- past the 48th all are made

@@ -1,4 +1,4 @@
--- The first example of the standard. Assumes nothing.
+-- The first example of the standard.
 use Rattle.std.specs.Prelude.{ℕ, List, [], ◌∷◌}
 
 -- "abc"

@@ -1,3 +1,3 @@
 pub mod Sha256
-pub mod Sha256Law
+pub mod Sha256Proofs
 pub mod Example

@@ -1,4 +1,4 @@
--- SHA-256 as FIPS 180-4 defines it, on bytes, by its sections. A word is a number below 2 ^ 32, a byte one below 2 ^ 8. Assumes nothing.
+-- SHA-256 as FIPS 180-4 defines it, on bytes, by its sections. A word is a number below 2 ^ 32, a byte one below 2 ^ 8.
 use Rattle.std.specs.Prelude.{ℕ, zero, suc, ◌+◌, ◌-◌, ◌*◌, ◌/◌, ◌%◌, ◌^◌, List, [], ◌∷◌, ◌++◌, map, length, replicate, fold, bit_and, bit_or, bit_xor, slice_index}
 use Rattle.std.specs.List.{range_with_len}
 use Rattle.std.specs.Simd.{first_chunks}
@@ -64,8 +64,8 @@ be64 n =
 unfoldable pub ending : ℕ → ℕ → List ℕ
 ending z n = 128 ∷ replicate z 0 ++ be64 (8 * n)
 
-unfoldable pub padded : List ℕ → List ℕ
-padded m = m ++ ending ((119 - length m % 64) % 64) (length m)
+unfoldable pub padded_message : List ℕ → List ℕ
+padded_message m = m ++ ending ((119 - length m % 64) % 64) (length m)
 
 -- 5.2.1: blocks of 64 bytes, and the words of a block
 abbrev pub blocks : List ℕ → List (List ℕ)
@@ -81,12 +81,12 @@ words bs = map (word bs) (range_with_len 0 16)
 abbrev pub next : List ℕ → ℕ → ℕ
 next ws t = σ1 (slice_index ws (t - 2)) ⊞ slice_index ws (t - 7) ⊞ σ0 (slice_index ws (t - 15)) ⊞ slice_index ws (t - 16)
 
-abbrev pub extended : List ℕ → ℕ → List ℕ
-extended ws t = ws ++ next ws t ∷ []
+abbrev pub with_next_word : List ℕ → ℕ → List ℕ
+with_next_word ws t = ws ++ next ws t ∷ []
 
 unfoldable pub schedule : ℕ → List ℕ → List ℕ
 schedule zero m = m
-schedule (suc n) m = extended (schedule n m) (16 + n)
+schedule (suc n) m = with_next_word (schedule n m) (16 + n)
 
 -- step 3, from the working variables of step 2: one round at the constant k and the word w, and the first t rounds
 abbrev pub T1 : ℕ → ℕ → Words → ℕ
@@ -108,8 +108,8 @@ abbrev pub plus : Words → Words → Words
 plus s t =
     record { a = s.a ⊞ t.a; b = s.b ⊞ t.b; c = s.c ⊞ t.c; d = s.d ⊞ t.d; e = s.e ⊞ t.e; f = s.f ⊞ t.f; g = s.g ⊞ t.g; h = s.h ⊞ t.h }
 
-unfoldable pub compressed : Words → List ℕ → Words
-compressed s block = plus (rounds 64 (schedule 48 (words block)) s) s
+unfoldable pub next_hash_value : Words → List ℕ → Words
+next_hash_value s block = plus (rounds 64 (schedule 48 (words block)) s) s
 
 -- 6.2.2, after the last block: the digest
 abbrev pub be32 : ℕ → List ℕ
@@ -119,4 +119,4 @@ unfoldable pub bytes : Words → List ℕ
 bytes s = be32 s.a ++ be32 s.b ++ be32 s.c ++ be32 s.d ++ be32 s.e ++ be32 s.f ++ be32 s.g ++ be32 s.h
 
 unfoldable pub sha256 : List ℕ → List ℕ
-sha256 m = bytes (fold compressed H0 (blocks (padded m)))
+sha256 m = bytes (fold next_hash_value H0 (blocks (padded_message m)))

@@ -1,13 +1,18 @@
 //! SHA-256, as FIPS 180-4 defines it.
 #![tactic(auto)]
 
-ghost use Rattle.std.specs.Prelude.{◌≡◌, ◌+◌, ◌-◌, ◌<◌, ◌≤◌, ◌++◌, length, take, fold, bit_xor, slice_index, slice_set};
+ghost use Rattle.std.specs.Prelude.{◌≡◌, ◌+◌, ◌-◌, ◌<◌, ◌≤◌, ◌++◌, length, take, fold, bit_xor};
+ghost use Rattle.std.specs.Prelude.{slice_index, slice_set};
 ghost use Rattle.std.specs.Int.{w32, rotate_right};
-ghost use Rattle.sha256.specs.Sha256.{Ch, Maj, shr, K, round, rounds, schedule, next, words, compressed, ending, bytes, sha256};
+ghost use Rattle.sha256.specs.Sha256.{Ch, Maj, shr, K, round, rounds, schedule, next, words};
+ghost use Rattle.sha256.specs.Sha256.{next_hash_value, ending, bytes, sha256};
 ghost use Rattle.sha256.specs.Example.{abc, «abc_digest»};
-ghost use Rattle.sha256.specs.Sha256Law.{«sha256_hashing»};
 
-use hasher::{CryptographicHasher, marked, put};
+use hasher::{marked_block, put};
+
+mod as_hasher;
+
+pub use as_hasher::Sha256;
 
 /// Eight words: the hash value, or the working variables.
 #[derive(Clone, Copy)]
@@ -60,7 +65,8 @@ fn majority(a: u32, b: u32, c: u32) -> u32
 
 /// Three rotations, put together: the shape of Σ0 and Σ1.
 fn big_sigma<const A: u32, const B: u32, const C: u32>(x: u32) -> u32
-    ensures { result ≡ bit_xor (bit_xor (rotate_right w32 x A) (rotate_right w32 x B)) (rotate_right w32 x C) }
+    ensures { result ≡ bit_xor (bit_xor (rotate_right w32 x A) (rotate_right w32 x B))
+        (rotate_right w32 x C) }
 {
     x.rotate_right(A) ^ x.rotate_right(B) ^ x.rotate_right(C)
 }
@@ -74,7 +80,7 @@ fn small_sigma<const A: u32, const B: u32, const C: u32>(x: u32) -> u32
 }
 
 /// The constant of round `t`.
-// Kept as a fact of a number, here and below: `t` is the standard's round.
+// `t` is the round of the standard.
 #[tactic(auto, unfolding(crate::specs::Sha256::K))]
 fn round_constant(t: usize) -> u32
     requires { t < 64 }
@@ -112,7 +118,6 @@ fn block_words(block: &[u8; 64]) -> [u32; 64]
     ensures { take 16 result ≡ words block.now }
 {
     let mut w = [0u32; 64];
-    // Kept as an index: nothing is known of places that were written behind `iter_mut().zip(..)`.
     for (t, bytes) in block.as_chunks::<4>().0.iter().enumerate() {
         w[t] = u32::from_be_bytes(*bytes);
     }
@@ -142,14 +147,13 @@ fn round_of(v: Words, w: &[u32; 64], t: usize) -> Words
 fn make_words(w: &mut [u32; 64])
     ensures { w.new ≡ schedule 48 (take 16 w.old) }
 {
-    // Kept as an index: each word is made from those at four places before it.
     for t in 0..48 {
         extend(w, t);
     }
 }
 
 /// All rounds.
-// Kept as eight rounds to a turn: with one, two or four it ran at 0.84 to 0.95 times this speed, and missed that of portable C (docs/BENCHMARKS.md).
+// Eight rounds to a turn of the loop: with one, two or four it ran at 0.84 to 0.95 of this speed (docs/history/BENCHMARKS-other-forms.md).
 fn all_rounds(s: Words, w: &[u32; 64]) -> Words
     ensures { result ≡ rounds 64 w.now s }
 {
@@ -169,9 +173,9 @@ fn all_rounds(s: Words, w: &[u32; 64]) -> Words
 }
 
 /// The hash value after one block.
-#[tactic(auto, unfolding(crate::specs::Sha256::compressed))]
+#[tactic(auto, unfolding(crate::specs::Sha256::next_hash_value))]
 fn compress(s: Words, block: &[u8; 64]) -> Words
-    ensures { result ≡ compressed s block.now }
+    ensures { result ≡ next_hash_value s block.now }
 {
     let mut w = block_words(block);
     make_words(&mut w);
@@ -189,9 +193,8 @@ fn compress(s: Words, block: &[u8; 64]) -> Words
 }
 
 /// The hash value after each block in turn.
-// Kept as a function of each hash: the state, the length of a block and the step are all its own.
 fn absorb(s: Words, blocks: &[[u8; 64]]) -> Words
-    ensures { result ≡ fold compressed s blocks.now }
+    ensures { result ≡ fold next_hash_value s blocks.now }
 {
     blocks.iter().fold(s, |h, block| compress(h, block))
 }
@@ -223,7 +226,7 @@ fn last_blocks(rest: &[u8], len: u64, end: usize) -> [u8; 128]
     requires two_blocks { end ≤ 128 }
     ensures { take end result ≡ rest.now ++ ending (end - 9 - length rest.now) len }
 {
-    let mut last = marked::<128>(rest, 0x80);
+    let mut last = marked_block::<128>(rest, 0x80);
     put(&mut last, end - 8, &len.wrapping_mul(8).to_be_bytes());
     last
 }
@@ -240,24 +243,9 @@ pub fn hash(input: &[u8]) -> [u8; 32]
 }
 
 /// The digest of the bytes "abc", the first example of the standard.
-// Kept as a function of each hash: each states the digest of its own standard, and one call is all that they share.
 pub fn hash_abc() -> [u8; 32]
     ensures definition { result ≡ sha256 abc }
     ensures example { result ≡ «abc_digest» }
 {
     hash(b"abc")
-}
-
-/// SHA-256 as a hasher.
-#[derive(Clone, Copy)]
-pub struct Sha256;
-
-impl CryptographicHasher<32> for Sha256 {
-    ghost digest = { sha256 };
-
-    ghost hashing = { «sha256_hashing» };
-
-    fn hash(&self, input: &[u8]) -> [u8; 32] {
-        hash(input)
-    }
 }

@@ -1,4 +1,4 @@
--- The digest of three bytes. Assumes nothing.
+-- The digest of three bytes.
 use Rattle.std.specs.Prelude.{ℕ, List, [], ◌∷◌}
 
 -- "abc"

@@ -1,3 +1,3 @@
 pub mod Sha3
-pub mod Sha3Law
+pub mod Sha3Proofs
 pub mod Example

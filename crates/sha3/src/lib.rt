@@ -2,19 +2,19 @@
 #![tactic(auto)]
 
 ghost use Rattle.std.specs.Prelude.{◌≡◌, ◌-◌, ◌<◌, ◌∷◌, ◌++◌, length, replicate, fold};
-ghost use Rattle.sha3.specs.Sha3.{mixed, absorbed, closed, squeezed, «sha3_256»};
-ghost use Rattle.sha3.specs.Sha3Law.{«sha3_hashing»};
+ghost use Rattle.sha3.specs.Sha3.{state_with_block, state_after_block, with_last_bit};
+ghost use Rattle.sha3.specs.Sha3.{digest_of_state, «sha3_256»};
+ghost use Rattle.sha3.specs.Sha3Proofs.{«sha3_hashing»};
 ghost use Rattle.sha3.specs.Example.{abc, «abc_digest»};
 
-use hasher::{CryptographicHasher, marked};
+use hasher::{CryptographicHasher, marked_block};
 use keccak::permute;
 
 /// The block mixed into the first 17 lanes; the others, the capacity, stay.
 fn mix(a: [u64; 25], block: &[u8; 136]) -> [u64; 25]
-    ensures { result ≡ mixed a block.now }
+    ensures { result ≡ state_with_block a block.now }
 {
     let mut s = a;
-    // Kept as an index: nothing is known of places that were written behind `iter_mut().zip(..)`.
     for (i, bytes) in block.as_chunks::<8>().0.iter().enumerate() {
         s[i] ^= u64::from_le_bytes(*bytes);
     }
@@ -22,11 +22,9 @@ fn mix(a: [u64; 25], block: &[u8; 136]) -> [u64; 25]
 }
 
 /// Absorbs each block in turn.
-// Kept as a function of each hash: the state, the length of a block and the step are all its own.
-// Kept as a loop: as a fold over the blocks, whose state is an array, the proof of the same contract didn't close.
-#[tactic(auto, unfolding(crate::specs::Sha3::absorbed))]
+#[tactic(auto, unfolding(crate::specs::Sha3::state_after_block))]
 fn absorb(a: [u64; 25], blocks: &[[u8; 136]]) -> [u64; 25]
-    ensures { result ≡ fold absorbed a blocks.now }
+    ensures { result ≡ fold state_after_block a blocks.now }
 {
     let mut s = a;
     for block in blocks {
@@ -39,17 +37,17 @@ fn absorb(a: [u64; 25], blocks: &[[u8; 136]]) -> [u64; 25]
 #[tactic(auto, using(crate::proofs::Last::last_is))]
 fn last_block(rest: &[u8]) -> [u8; 136]
     requires { length rest.now < 136 }
-    ensures { result ≡ rest.now ++ closed (6 ∷ replicate (135 - length rest.now) 0) }
+    ensures { result ≡ rest.now ++ with_last_bit (6 ∷ replicate (135 - length rest.now) 0) }
 {
-    let mut last = marked::<136>(rest, 0x06);
+    let mut last = marked_block::<136>(rest, 0x06);
     last[135] |= 0x80;
     last
 }
 
 /// The first four lanes, low bytes first.
-#[tactic(auto, unfolding(crate::specs::Sha3::squeezed))]
+#[tactic(auto, unfolding(crate::specs::Sha3::digest_of_state))]
 fn squeeze(a: &[u64; 25]) -> [u8; 32]
-    ensures { result ≡ squeezed a.now }
+    ensures { result ≡ digest_of_state a.now }
 {
     let lanes = [
         a[0].to_le_bytes(),
@@ -72,7 +70,6 @@ pub fn hash(input: &[u8]) -> [u8; 32]
 }
 
 /// The digest of the bytes "abc".
-// Kept as a function of each hash: each states the digest of its own standard, and one call is all that they share.
 pub fn hash_abc() -> [u8; 32]
     ensures definition { result ≡ «sha3_256» abc }
     ensures example { result ≡ «abc_digest» }

@@ -1,3 +1,2 @@
 pub mod Absorbing
 pub mod Turning
-pub mod Separating

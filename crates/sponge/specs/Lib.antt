@@ -1,6 +1,3 @@
+pub use Rattle.buffer.specs.Items
 pub mod Sponge
 pub mod SpongeHeld
-pub mod Separation
-pub mod CodesBlock
-pub mod CodesBlockLaws
-pub mod CodesKind

@@ -1,5 +1,5 @@
--- What a sponge does: absorb a block under a tag, permute, and give outputs. Assumes nothing.
-use Rattle.std.specs.Prelude.{ℕ, ◌+◌, ◌-◌, List, ◌∷◌, ◌++◌, length, take, drop, replicate, slice_index}
+-- What a sponge does: absorb a block under a tag, permute, and give outputs.
+use Rattle.std.specs.Prelude.{ℕ, ◌+◌, ◌-◌, List, [], ◌∷◌, ◌++◌, length, take, drop, replicate, slice_index}
 use Rattle.domain.specs.Arithmetic.{Arithmetic}
 
 -- what making a sponge fixes: the domain's arithmetic, the permutation's image, WIDTH and RATE
@@ -18,24 +18,29 @@ abbrev pub sponge_state : List ℕ → List ℕ → SpongeState
 sponge_state row outputs = record { row = row; outputs = outputs }
 
 -- the words, and zeros up to the rate
-abbrev pub padded : List ℕ → ℕ → List ℕ
-padded words rate = words ++ replicate (rate - length words) 0
+abbrev pub padded_words : List ℕ → ℕ → List ℕ
+padded_words words rate = words ++ replicate (rate - length words) 0
 
--- the row, after these words under this tag: the words stand in the first cells, the rest of the rate is zeroed, and cell RATE gains the tag
-unfoldable pub absorbed : {order : ℕ} → SpongeMake order → List ℕ → List ℕ → ℕ → List ℕ
-absorbed k row words tag = padded words k.rate ++ (k.arithmetic.add (slice_index row k.rate) tag ∷ drop (k.rate + 1) row)
+-- the row, after these words under this tag: the words stand in the first cells, the rest of the rate is zeroed, and cell RATE gains the tag, by which a block stays apart from the same block with zeros behind it
+unfoldable pub row_with_block : {order : ℕ} → SpongeMake order → List ℕ → List ℕ → ℕ → List ℕ
+row_with_block k row words tag = padded_words words k.rate ++ (k.arithmetic.add (slice_index row k.rate) tag ∷ drop (k.rate + 1) row)
 
 -- the row was just permuted: the outputs are its rate
-abbrev pub refilled : {order : ℕ} → SpongeMake order → List ℕ → SpongeState
-refilled k row = sponge_state row (take k.rate row)
+abbrev pub with_rate_as_outputs : {order : ℕ} → SpongeMake order → List ℕ → SpongeState
+with_rate_as_outputs k row = sponge_state row (take k.rate row)
 
 -- a turn with a block, from this row: the words under the tag are absorbed, and the row is permuted
 abbrev pub block_turn : {order : ℕ} → SpongeMake order → List ℕ → List ℕ → ℕ → SpongeState
-block_turn k row words tag = refilled k (k.image (absorbed k row words tag))
+block_turn k row words tag = with_rate_as_outputs k (k.image (row_with_block k row words tag))
 
 -- a turn with no block: the row is only permuted
 abbrev pub empty_turn : {order : ℕ} → SpongeMake order → List ℕ → SpongeState
-empty_turn k row = refilled k (k.image row)
+empty_turn k row = with_rate_as_outputs k (k.image row)
+
+-- a turn with these codes, from this row: they are a block tagged by their number, or no block if there is none
+abbrev pub after_turn : {order : ℕ} → SpongeMake order → List ℕ → List ℕ → SpongeState
+after_turn k row [] = empty_turn k row
+after_turn k row (x ∷ xs) = block_turn k row (x ∷ xs) (length (x ∷ xs))
 
 -- outputs are taken from the end
 abbrev pub last_output : List ℕ → ℕ

@@ -1,5 +1,5 @@
--- What a sponge in memory stands for. Assumes nothing.
-use Rattle.std.specs.Prelude.{◌≡◌, ℕ, List, Bool, true, ◌&&◌, [], replicate, nat_le, nat_lt}
+-- What a sponge in memory stands for.
+use Rattle.std.specs.Prelude.{◌≡◌, ℕ, List, Bool, ◌&&◌, [], replicate, nat_le, nat_lt, IsTrue}
 use Rattle.domain.specs.Arithmetic.{Arithmetic}
 use Rattle.domain.specs.declared.Domain.{Ghosts as DomainGhosts}
 use Rattle.permutation.specs.declared.CryptographicPermutation.{Ghosts as PermutationGhosts}
@@ -7,38 +7,39 @@ use Rattle.buffer.specs.Items.{items}
 use Rattle.sponge.specs.Sponge.{SpongeMake, SpongeState, sponge_state}
 use Rattle.sponge.specs.declared.Sponge.{Sponge}
 use Rattle.sponge.specs.declared.parameters.Parameters.{Parameters}
+use Rattle.refusal.specs.declared.limits.TheConstants.{WIDEST_ROW}
 
--- is the rate at least 1 and below the width, and the width at most 64?
-abbrev pub shaped : ℕ → ℕ → Bool
-shaped width rate = nat_le 1 rate && (nat_lt rate width && nat_le width 64)
+-- is the rate at least 1 and below the width, and the width at most the widest row?
+abbrev pub is_shape : ℕ → ℕ → Bool
+is_shape width rate = nat_le 1 rate && (nat_lt rate width && nat_le width WIDEST_ROW)
 
 -- WIDTH, RATE and the permutation, as making fixes them
-abbrev pub made : {P : Type 0} → ℕ → ℕ → P → Parameters P
-made width rate permutation = record { width = width; rate = rate; permutation = permutation }
+abbrev pub parameters_of : {P : Type 0} → ℕ → ℕ → P → Parameters P
+parameters_of width rate permutation = record { width = width; rate = rate; permutation = permutation }
 
 -- what they mean, with the domain's arithmetic and the permutation's image
-abbrev pub of_make : {order : ℕ} {P : Type 0} → Arithmetic order → (P → List ℕ → List ℕ) → Parameters P → SpongeMake order
-of_make d image m = record { arithmetic = d; image = image m.permutation; width = m.width; rate = m.rate }
+abbrev pub meaning_of_make : {order : ℕ} {P : Type 0} → Arithmetic order → (P → List ℕ → List ℕ) → Parameters P → SpongeMake order
+meaning_of_make d image m = record { arithmetic = d; image = image m.permutation; width = m.width; rate = m.rate }
 
 -- a sponge over a domain d and a permutation's meaning p
 module _ {D P : Type 0} {order : ℕ} {d : DomainGhosts D order} {p : PermutationGhosts P D order} where
-  abbrev pub held : Sponge D P order d p → SpongeState
-  held s = sponge_state (items s.row) (items s.outputs)
+  abbrev pub held_value : Sponge D P order d p → SpongeState
+  held_value s = sponge_state (items s.row) (items s.outputs)
 
   abbrev pub make : Sponge D P order d p → Parameters P
-  make s = made s.width s.rate s.permutation
+  make s = parameters_of s.width s.rate s.permutation
 
   -- the domain's arithmetic, the image of the sponge's permutation, and its width and rate
-  abbrev pub making : Sponge D P order d p → SpongeMake order
-  making s = of_make d.arithmetic p.image (make s)
+  abbrev pub make_meaning : Sponge D P order d p → SpongeMake order
+  make_meaning s = meaning_of_make d.arithmetic p.image (make s)
 
   -- a new sponge of this width, rate and permutation: zeros, and no output
-  pub record Fresh (width rate : ℕ) (permutation : P) (s : Sponge D P order d p) : Type 0 where
-    pub shape : shaped width rate ≡ true
+  pub record IsFresh (width rate : ℕ) (permutation : P) (s : Sponge D P order d p) : Type 0 where
+    pub shape : IsTrue (is_shape width rate)
     pub permutation_is : s.permutation ≡ permutation
     pub width_is : s.width ≡ width
     pub rate_is : s.rate ≡ rate
-    pub zeros : held s ≡ sponge_state (replicate width 0) []
+    pub zeros : held_value s ≡ sponge_state (replicate width 0) []
 
   -- the two have one permutation, width and rate
   pub record SameMake (s t : Sponge D P order d p) : Type 0 where

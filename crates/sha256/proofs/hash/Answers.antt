@@ -1,7 +1,7 @@
 use Rattle.std.proofs.Common.{◌≡◌, ◌+◌, ◌-◌, ◌/◌, ◌%◌, ◌≤◌, length, take, fold, sym, ap, ◌∙◌, arith}
-use Rattle.sha256.specs.Sha256.{H0, bytes, compressed, sha256}
+use Rattle.sha256.specs.Sha256.{H0, bytes, next_hash_value, sha256}
 use Rattle.hasher.proofs.Blocks.{folded-++}
-use Rattle.sha256.proofs.Padding.{blocks-padded}
+use Rattle.sha256.proofs.Padding.{blocks-padded_message}
 use Rattle.sha256.proofs.hash.Goals as goal
 use Rattle.sha256.proofs.hash.Goals.{then-rest-lt56, else-rest-lt56}
 
@@ -24,8 +24,8 @@ returns c =
     let to : end - 0 ≡ end = omega arith in
     c.digest_bytes.ensures
     ∙ ap bytes
-    (c.absorb-2.ensures ∙ ap (λ h. fold compressed h tail) c.absorb.ensures ∙ sym (folded-++ compressed H0 whole tail)
-    ∙ ap (fold compressed H0)
-    (blocks-padded m rest (take (end - 0) made) whole tail end c.as_chunks.ensures.back
+    (c.absorb-2.ensures ∙ ap (λ h. fold next_hash_value h tail) c.absorb.ensures ∙ sym (folded-++ next_hash_value H0 whole tail)
+    ∙ ap (fold next_hash_value H0)
+    (blocks-padded_message m rest (take (end - 0) made) whole tail end c.as_chunks.ensures.back
     (ap (λ i. take i made) to ∙ c.last_blocks-last.ensures) c.as_chunks.ensures.front c.as_chunks-2.ensures.front
     room z count))

@@ -6,10 +6,12 @@ use std::panic::{self, AssertUnwindSafe, catch_unwind};
 
 use driver::{ByteDuplex, Perm, Sha256};
 use p3_challenger::{
-    CanObserve, CanSample, CanSampleBits, CanSampleUniformBits, DuplexChallenger,
-    GrindingChallenger, HashChallenger, MultiField32Challenger, SerializingChallenger32,
+    ByteGrindingChallenger, CanObserve, CanSample, CanSampleBits, CanSampleUniformBits,
+    DuplexChallenger, GrindingChallenger, HashChallenger, MultiField32Challenger,
+    SerializingChallenger32,
 };
-use p3_field::{BabyBear, Bytes, Code, Goldilocks, PrimeCharacteristicRing};
+use p3_field::{BabyBear, Bytes, Code, Goldilocks, KoalaBear, PrimeCharacteristicRing};
+use p3_symmetric::CryptographicHasher;
 
 fn tell<C: Debug, T: Debug>(input: &str, mut c: C, run: impl FnOnce(&mut C) -> T) {
     println!("{input}");
@@ -85,6 +87,48 @@ fn bytes_observed() {
     println!("hash sha256 with 1,024 initial bytes: observe 1\n  after:  {bytes} bytes of input");
 }
 
+/// A hasher whose digests have no byte.
+#[derive(Clone, Copy, Debug)]
+struct Nothing;
+
+impl CryptographicHasher<u8, [u8; 0]> for Nothing {
+    fn hash_iter<I: IntoIterator<Item = u8>>(&self, _: I) -> [u8; 0] {
+        []
+    }
+}
+
+/// Limits that the Rust does not have, and the order of a multi-field challenger's questions.
+fn limits() {
+    let koala = MultiField32Challenger::<KoalaBear, BabyBear, Perm, 65, 8>::new(Perm::Mirror);
+    println!(
+        "multi koalabear babybear mirror 65 8: {:?}",
+        koala.map(drop)
+    );
+    let bytes = MultiField32Challenger::<Bytes, Goldilocks, Perm, 65, 37>::new(Perm::Mirror);
+    println!("multi bytes goldilocks mirror 65 37: {:?}", bytes.map(drop));
+    let full = hash(&[7; 1021]);
+    let found = full.find_witness(1, |c| (c as u32).to_le_bytes(), |_: [u8; 4]| true);
+    println!("hash sha256 with 1,021 initial bytes: find 1 0\n  answer: {found:?}");
+    let empty = HashChallenger::<u8, Nothing, 0>::new(Vec::new(), Nothing);
+    tell("hash with digests of no byte: sample", empty, |c| {
+        CanSample::<u8>::sample(c)
+    });
+    tell("serial babybear hash sha256 -: uniform 3", serial(), |c| {
+        c.sample_uniform_bits::<false>(3)
+    });
+}
+
+/// What is a reader here is a field there.
+fn field_written() {
+    tell(
+        "duplex babybear mirror 3 2: a cell written",
+        duplex(),
+        |c| {
+            c.sponge_state[0] = Code::from_u64(9);
+        },
+    );
+}
+
 /// Small orders only: the Rust tries all candidates.
 fn no_witness() {
     let duplex = DuplexChallenger::<Bytes, Perm, 2, 1>::new(Perm::Mirror);
@@ -101,5 +145,7 @@ fn main() {
     panic::set_hook(Box::new(|_| {}));
     bits_too_many();
     bytes_observed();
+    limits();
+    field_written();
     no_witness();
 }

@@ -1,12 +1,12 @@
 use Rattle.std.proofs.Common.{ℕ, suc, ◌*◌, ◌^◌, ◌<◌, ◌≤◌, inl, inr, mul_comm, pow-suc, arith}
 use Rattle.std.proofs.Math.Nat.{pow-le-pow_right}
 use Rattle.std.proofs.lemmas.Bool.{cases_lt}
-use Rattle.packing.specs.Powers.{GreatestPower}
-use Rattle.packing.specs.PowerLaws.{greatest_is}
+use Rattle.packing.specs.Powers.{IsGreatestPower}
+use Rattle.packing.specs.PowersProofs.{greatest_is}
 use Rattle.packing.proofs.powers.greatest_power.Goals as goal
 
 -- a power that is followed by one above the order is the greatest
-greatest_by : (base order n : ℕ) → 2 ≤ base → base ^ n ≤ order → order < base * base ^ n → GreatestPower base order n
+greatest_by : (base order n : ℕ) → 2 ≤ base → base ^ n ≤ order → order < base * base ^ n → IsGreatestPower base order n
 greatest_by base order n two fits over = record {
   fits = fits;
   greatest = λ m h. elim (cases_lt n m) [

@@ -1,7 +1,7 @@
 use Rattle.std.proofs.Common.{◌≡◌, ap, subst, sym, arith}
-use Rattle.bits.specs.CodeBitsLaw.{code_bits-least}
-use Rattle.packing.specs.Powers.{limbs, greatest_power, Limbs}
-use Rattle.packing.specs.PowerLaws.{limbs-words}
+use Rattle.code_bits.specs.CodeBitsProofs.{code_bits-least}
+use Rattle.packing.specs.Powers.{limbs, greatest_power, IsLimbs}
+use Rattle.packing.specs.PowersProofs.{limbs-words}
 use Rattle.packing.proofs.powers.limbs.Goals as goal
 
 pub greatest_power-n-requires-clause-base : goal.greatest_power-n-requires-clause-base
@@ -12,4 +12,4 @@ unfolding limbs
 returns c =
     let a = c.args in
     let value : c.max.result ≡ limbs a.sampled a.order = omega (arith, ap (λ b. greatest_power b a.order) c.radix.ensures) in
-    record { value = value; words = subst (Limbs a.sampled a.order) (sym value) (limbs-words a.sampled a.order c.requires.low c.requires.small c.requires.some (omega arith)) }
+    record { value = value; words = subst (IsLimbs a.sampled a.order) (sym value) (limbs-words a.sampled a.order c.requires.low c.requires.small c.requires.some (omega arith)) }

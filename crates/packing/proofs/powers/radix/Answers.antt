@@ -1,5 +1,5 @@
 use Rattle.std.proofs.Common.{◌^◌, ap, ◌∙◌, arith}
-use Rattle.bits.specs.CodeBitsLaw.{code_bits-next}
+use Rattle.code_bits.specs.CodeBitsProofs.{code_bits-next}
 use Rattle.packing.proofs.powers.radix.Goals as goal
 
 pub returns : goal.returns

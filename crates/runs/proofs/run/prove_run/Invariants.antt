@@ -1,14 +1,14 @@
 use Rattle.std.proofs.Common.{◌≡◌, ◌++◌, length, take, drop}
-use Rattle.runs.specs.Runs.{answers, ends}
+use Rattle.runs.specs.Runs.{answers, value_after}
 use Rattle.runs.proofs.run.prove_run.Given as goal
 
 abbrev pub invariant-loop-i : goal.invariant-loop-i
 invariant-loop-i g l =
     let t = g.C.Holding in
     let k = t.make l.initial.c in
-    let rule = g.C.Challenger.rule k in
-    let h = t.held l.initial.c in
+    let rule = g.C.CanTakeCalls.rule k in
+    let h = t.held_value l.initial.c in
     (length l.said ≡ length l.calls)
-    × (take l.i l.said ++ answers rule (t.held l.c) (drop l.i l.calls) ≡ answers rule h l.calls)
-    × (ends rule (t.held l.c) (drop l.i l.calls) ≡ ends rule h l.calls)
+    × (take l.i l.said ++ answers rule (t.held_value l.c) (drop l.i l.calls) ≡ answers rule h l.calls)
+    × (value_after rule (t.held_value l.c) (drop l.i l.calls) ≡ value_after rule h l.calls)
     × (t.make l.c ≡ k)

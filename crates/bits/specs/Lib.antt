@@ -1,2 +1,0 @@
-pub mod CodeBits
-pub mod CodeBitsLaw

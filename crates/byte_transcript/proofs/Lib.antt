@@ -1,0 +1,2 @@
+pub mod Sought
+pub mod Fitting

@@ -1,0 +1,3 @@
+pub use Rattle.challenger_traits.specs.Meaning
+pub mod Transcript
+pub mod Encoding

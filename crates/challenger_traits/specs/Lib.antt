@@ -1,0 +1,4 @@
+pub mod Meaning
+pub mod Grinding
+pub mod GrindingProofs
+pub mod Observing

@@ -1,0 +1,2 @@
+pub mod CodeBits
+pub mod CodeBitsProofs

@@ -1,0 +1,26 @@
+// Bytes.
+ghost use Rattle.domain.specs.Modular.{bytes};
+
+use crate::Domain;
+use crate::modulo::square_modulo;
+
+/// The codes below 256.
+#[derive(Clone, Copy)]
+pub struct Bytes;
+
+impl Domain<256> for Bytes {
+    ghost arithmetic = { bytes };
+
+    fn single() -> u32 {
+        7
+    }
+
+    // A remainder by 256 is a mask, with no comparison.
+    fn add(a: u64, b: u64) -> u64 {
+        (a + b) % 256
+    }
+
+    fn stir(a: u64) -> u64 {
+        square_modulo(256, a)
+    }
+}

@@ -1,0 +1,12 @@
+pub use Rattle.buffer.specs.Items
+pub use Rattle.challenger_traits.specs.Meaning
+pub use Rattle.challenger_traits.specs.Observing
+pub use Rattle.prepared_grind.specs.Blocks
+pub use Rattle.runs.specs.Runs
+pub use Rattle.sampling.specs.Uniform
+pub use Rattle.sponge.specs.Sponge
+pub use Rattle.sponge.specs.SpongeHeld
+pub mod Rules
+pub mod Holds
+pub mod Calls
+pub mod Bytes

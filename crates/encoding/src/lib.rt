@@ -1,6 +1,0 @@
-//! Numbers as bytes on a byte transcript.
-#![tactic(auto)]
-
-mod observing;
-
-pub use observing::observe_numbers;

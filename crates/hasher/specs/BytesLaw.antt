@@ -1,9 +1,0 @@
--- Proof only, not to be read to believe a contract: remainders modulo 256 are bytes. Assumes nothing.
-use Rattle.std.specs.Prelude.{ℕ, zero, suc, ◌%◌, List, [], ◌∷◌, map}
-use Rattle.std.proofs.Common.{arith}
-use Rattle.hasher.specs.Hashing.{Bytes}
-
-pub bytes_mod : (xs : List ℕ) → Bytes (map (λ x. x % 256) xs)
-bytes_mod [] k lt = let z : ⊥ = omega arith in absurd z
-bytes_mod (x ∷ xs) zero lt = omega arith
-bytes_mod (x ∷ xs) (suc k) lt = bytes_mod xs k (omega arith)

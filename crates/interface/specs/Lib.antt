@@ -1,3 +1,0 @@
-pub mod Meaning
-pub mod Grinding
-pub mod GrindingLaws

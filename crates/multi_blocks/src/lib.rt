@@ -1,8 +1,0 @@
-//! The blocks of a multi-field challenger, of scalars and of words, and its outputs split into scalars.
-#![tactic(auto)]
-
-mod absorbing;
-mod squeezing;
-
-pub use absorbing::{absorb_words, flush};
-pub use squeezing::{refill, split_all};

@@ -1,6 +1,0 @@
-use Rattle.std.proofs.Common.{◌≡◌, length}
-use Rattle.packing.proofs.Groups.{end_word}
-use Rattle.packing.proofs.Numbers.pack_group.Given as goal
-
-abbrev pub invariant-loop-scalar : goal.invariant-loop-scalar
-invariant-loop-scalar g l = l.word ≡ end_word g.row.SAMPLED l.group (length l.yielded)

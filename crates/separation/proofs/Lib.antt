@@ -1,0 +1,2 @@
+pub mod Separating
+mod ScalarsKind

@@ -1,8 +1,0 @@
-use Rattle.std.proofs.Common.{◌≡◌, ℕ, ◌<◌, false}
-use Rattle.transcript.specs.Transcript.{passes}
-use Rattle.transcript.proofs.trial.find_by_trial.Given as goal
-
-abbrev pub invariant-loop-candidate : goal.invariant-loop-candidate
-invariant-loop-candidate g l =
-    (k : ℕ) → k < l.candidate →
-    passes (g.T.ByteTranscript.meaning (g.T.Holding.make l.initial.transcript)) (g.T.Holding.held l.initial.transcript) l.mask k ≡ false

@@ -1,7 +1,7 @@
 //! Plays the calls of a row again and again, to be timed beside the Rust: `bench_challengers ROW TURNS` prints the row's checksum. compare/README.md has the inputs of each row.
 #![tactic(auto)]
 
-use challenger_traits::{CanObserve, GrindingChallenger};
+use challenger_traits::{CanFinalizeDigest, CanObserve, GrindingChallenger};
 use domain::{BabyBear, Bytes, Goldilocks};
 use duplex_challenger::DuplexChallenger;
 use hash_challenger::HashChallenger;

@@ -7,9 +7,6 @@ use Rattle.byte_transcript.specs.declared.trial.TheConstants.{MOST_CANDIDATES}
 
 -- the laws of the room, on the values that can be held
 pub record RoomLaws {Held : Type 0} (can_be_held : Held → Bool) (after_byte : Held → ℕ → Held) (after_draw : Held → Held) (room : Held → ℕ) : Type 0 where
-  -- observing a byte and drawing one leave values that can be held
-  pub can_be_held_after_byte : (h : Held) (b : ℕ) → IsTrue (can_be_held h) → 1 ≤ room h → IsTrue (can_be_held (after_byte h b))
-  pub can_be_held_after_draw : (h : Held) → IsTrue (can_be_held h) → IsTrue (can_be_held (after_draw h))
   -- observing a byte lowers the room by at most one, so observing n bytes by at most n
   pub lowers : (h : Held) (b : ℕ) → room h ≤ room (after_byte h b) + 1
   -- after a draw the room is at least 8: a check draws a byte first, and then the four bytes of a witness fit, as would the eight of a 64-bit one
@@ -24,6 +21,11 @@ pub record Transcript (Held : Type 0) : Type 0 where
   pub digest : Held → List ℕ
   pub room : Held → ℕ
   pub laws : RoomLaws can_be_held after_byte after_draw room
+
+-- observing a byte and drawing one lead from values that can be held to others
+pub record StaysHeld {Held : Type 0} (m : Transcript Held) : Type 0 where
+  pub after_byte : (h : Held) (b : ℕ) → IsTrue (m.can_be_held h) → 1 ≤ m.room h → IsTrue (m.can_be_held (m.after_byte h b))
+  pub after_draw : (h : Held) → IsTrue (m.can_be_held h) → IsTrue (m.can_be_held (m.after_draw h))
 
 -- the word of the first four bytes, least significant first; 0 of fewer
 abbrev pub le_word : List ℕ → ℕ

@@ -1,16 +1,16 @@
 //! Byte transcripts: what observes bytes and gives bytes back.
 #![tactic(auto)]
 
-ghost use Rattle.std.specs.Prelude.{◌≡◌, ℕ, List, IsTrue};
+ghost use Rattle.std.specs.Prelude.{◌≡◌, IsTrue};
 ghost use Rattle.challenger_traits.specs.Meaning.{Does, reply, observe_of};
-ghost use Rattle.byte_transcript.specs.Transcript.{Transcript, after_observe_bytes};
+ghost use Rattle.byte_transcript.specs.Transcript.{Transcript, StaysHeld, after_observe_bytes};
 ghost use Rattle.byte_transcript.specs.Transcript.{least_candidate};
 
 mod encoding;
 mod trial;
 mod word;
 
-use challenger_traits::Holding;
+use challenger_traits::{CanFinalizeDigest, Holding};
 pub use encoding::observe_numbers;
 use refusal::Refusal;
 pub use trial::{MOST_CANDIDATES, candidate_count, find_by_trial};
@@ -20,6 +20,9 @@ pub use word::{draw_word, word_of};
 pub trait ByteTranscript: Holding {
     // What the transcript means, with its laws.
     ghost meaning: { Self.Make → Transcript (Self.Held) };
+
+    // What can be held leads to what can be held.
+    ghost stays_held: { (k : Self.Make) → StaysHeld (meaning k) };
 
     /// How many bytes may still be observed.
     fn room(&self) -> u64
@@ -31,13 +34,15 @@ pub trait ByteTranscript: Holding {
             (observe_of (after_observe_bytes (meaning (Self.make self.old))
             (Self.held_value self.old) bytes.now) (Self.held_value self.old)) };
 
-    /// Draws one byte. What is held is one of the values that the laws speak of, so that the room is then at least 8.
+    /// Draws one byte.
     fn sample_byte(&mut self) -> u8
         ensures does { Does Self.make Self.held_value self.old self.new result
             (reply ((meaning (Self.make self.old)).byte (Self.held_value self.old))
-            ((meaning (Self.make self.old)).after_draw (Self.held_value self.old))) }
-        ensures can_be_held { IsTrue ((meaning (Self.make self.old)).can_be_held
-            (Self.held_value self.old)) };
+            ((meaning (Self.make self.old)).after_draw (Self.held_value self.old))) };
+
+    // The meaning has its laws on each value that a transcript of a make can hold.
+    ghost meaning_covers: { (k : Self.Make) (h : Self.Held)
+        → IsTrue (Self.Holding.can_be_held k h) → IsTrue ((meaning k).can_be_held h) };
 }
 
 /// Finding a witness.
@@ -48,14 +53,8 @@ pub trait ByteGrindingChallenger: ByteTranscript {
             (Self.held_value self.now) candidates mask };
 }
 
-/// Ending a transcript with its digest.
-pub trait CanFinalizeDigest: ByteTranscript {
-    type Digest;
-
-    // The numbers of a digest.
-    ghost digest_numbers: { Self.Digest → List ℕ };
-
-    fn finalize(self) -> Self::Digest
-        ensures { digest_numbers result ≡ (Self.meaning (Self.make self)).digest
-            (Self.held_value self) };
+/// A transcript that ends with its digest: the one that it means.
+pub trait CanFinalizeTranscript: ByteTranscript + CanFinalizeDigest {
+    ghost digest_is: { (k : Self.Make) (h : Self.Held)
+        → Self.CanFinalizeDigest.digest_of k h ≡ (Self.ByteTranscript.meaning k).digest h };
 }

@@ -1,5 +1,5 @@
 -- Check and grind, through the meanings of observing, of drawing bits and of where a check starts.
-use Rattle.std.specs.Prelude.{◌≡◌, ℕ, zero, suc, ◌+◌, ◌<◌, ◌≤◌, Bool, true, false, List, [], ◌∷◌, Ok, Err, Result, ◌==◌, nat_le, nat_lt, if◌then◌else◌, IsTrue, IsFalse}
+use Rattle.std.specs.Prelude.{◌≡◌, ℕ, zero, suc, ◌+◌, ◌<◌, ◌≤◌, ◌⊎◌, Bool, true, false, List, [], ◌∷◌, Ok, Err, Result, ◌==◌, nat_le, nat_lt, if◌then◌else◌, IsTrue, IsFalse}
 use Rattle.refusal.specs.declared.Refusal.{Refusal}
 use Rattle.refusal.specs.declared.Refusal.TheVariants.{Bits, Budget, NotCode, NoWitness}
 use Rattle.challenger_traits.specs.Meaning.{Reply, reply, reply_if_passed, Drawing, bits_fit}
@@ -22,6 +22,10 @@ first p (suc n) = if nat_lt (first p n) n then first p n else if p n then n else
 abbrev pub says_yes : Result Bool Refusal → Bool
 says_yes (Ok v) = v
 says_yes (Err e) = false
+
+-- a check is refused for its bits, or for a witness that is no code, and for nothing else
+abbrev pub CheckRefused : ℕ → ℕ → ℕ → Refusal → Type 0
+CheckRefused order b w e = (IsFalse (bits_fit order b) × (e ≡ Bits)) ⊎ (IsTrue (bits_fit order b) × IsFalse (nat_lt w order) × (e ≡ NotCode))
 
 module _ {Held : Type 0} (m : Means Held) where
   -- the witness was observed where a check starts: are the bits drawn next 0?

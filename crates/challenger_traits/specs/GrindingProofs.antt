@@ -1,11 +1,11 @@
 -- Proof only: what `first` finds, that a grind's witness passes a check in its place, and that it is the least.
-use Rattle.std.specs.Prelude.{◌≡◌, ℕ, zero, suc, ◌+◌, ◌<◌, ◌≤◌, Bool, true, false, Ok, Err, Result, ◌==◌, nat_le, nat_lt, refl}
-use Rattle.std.proofs.Common.{sym, ap, ◌∙◌, ⊎_elim, arith}
+use Rattle.std.specs.Prelude.{◌≡◌, ℕ, zero, suc, ◌+◌, ◌<◌, ◌≤◌, Bool, true, false, [], ◌∷◌, Ok, Err, Result, IfOk, IfErr, IsOk, ◌==◌, nat_le, nat_lt, refl}
+use Rattle.std.proofs.Common.{sym, ap, subst, ◌∙◌, ⊎_elim, inl, inr, arith}
 use Rattle.std.proofs.lemmas.Bool.{ltb-true, ltb-false, lt-ltb, le-ltb, le-leb, ne_eqb, cond-true, cond-false, cases_lt, cases_order, cond_both}
 use Rattle.refusal.specs.declared.Refusal.{Refusal}
 use Rattle.refusal.specs.declared.Refusal.TheVariants.{NoWitness}
 use Rattle.challenger_traits.specs.Meaning.{Reply, reply, bits_fit}
-use Rattle.challenger_traits.specs.Grinding.{Means, first, says_yes, check_of, accepts, search_reply, grind_of, NoneBelow, refused, passed, LeastWitness}
+use Rattle.challenger_traits.specs.Grinding.{Means, first, says_yes, CheckRefused, check_after_observe, check_of, accepts, search_reply, grind_of, NoneBelow, refused, passed, LeastWitness}
 
 pub first_le : (p : ℕ → Bool) (n : ℕ) → first p n ≤ n
 unfolding first
@@ -79,6 +79,33 @@ module _ {Held : Type 0} (m : Means Held) where
       (λ ge. refl))
       (λ l. refl)))
       (λ q. refl)
+
+  -- so the witness of a passed grind passes
+  passes-by : (h : Held) (b : ℕ) (s : Result (ℕ × ℕ) Refusal) (left : Held) → InPlace h b s left → IfOk s (λ p. check_of m h b p.0 ≡ reply (Ok true) left)
+  passes-by h b (Ok p) left e = e
+  passes-by h b (Err x) left e = tt
+
+  pub ground-passes : (h : Held) (b n : ℕ) {r : Reply (Result (ℕ × ℕ) Refusal) Held} → grind_of m h b n ≡ r → IfOk r.said (λ p. check_of m h b p.0 ≡ reply (Ok true) r.left)
+  ground-passes h b n {r} e =
+      subst (λ (r : Reply (Result (ℕ × ℕ) Refusal) Held). IfOk r.said (λ p. check_of m h b p.0 ≡ reply (Ok true) r.left)) e
+      (passes-by h b (grind_of m h b n).said (grind_of m h b n).left (grind_in_place h b n))
+
+  -- where a code is observed, a check is refused for its bits or for a witness that is no code
+  answered : (h : Held) (b w : ℕ) (r : Result Held Refusal) → IsOk r → IfErr (check_after_observe m r h b).said (CheckRefused m.drawing.order b w)
+  answered h b w (Ok g) is = tt
+  answered h b w (Err e) is = absurd cc
+
+  pub check-refused : (h : Held) (b w : ℕ) → (w < m.drawing.order → IsOk (m.after_observe (m.check_start h) (w ∷ []))) → IfErr (check_of m h b w).said (CheckRefused m.drawing.order b w)
+  unfolding check_of
+  check-refused h b w taken =
+      let P : Reply (Result Bool Refusal) Held → Type 0 = λ r. IfErr r.said (CheckRefused m.drawing.order b w) in
+      cond_both (bits_fit m.drawing.order b) _ _ P
+      (λ q. cond_both (b == 0) _ _ P
+      (λ z. tt)
+      (λ z. cond_both (nat_lt w m.drawing.order) _ _ P
+      (λ l. answered h b w (m.after_observe (m.check_start h) (w ∷ [])) (taken (ltb-true w m.drawing.order l)))
+      (λ l. inr (q, l, refl))))
+      (λ q. inl (q, refl))
 
   module _ (h : Held) (b n : ℕ) (q : bits_fit m.drawing.order b ≡ true) (some : 1 ≤ b) (within : n ≤ m.drawing.order) where
     grind_searches : grind_of m h b n ≡ search_reply m h b n (first (accepts m h b) n)

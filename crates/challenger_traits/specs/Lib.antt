@@ -2,3 +2,5 @@ pub mod Meaning
 pub mod Grinding
 pub mod GrindingProofs
 pub mod Observing
+pub mod ObservingProofs
+pub mod SameMeansProofs

@@ -22,6 +22,19 @@ pub record Does {Self Make Held Said : Type 0} (make : Self → Make) (held_valu
 abbrev pub reply_if_passed : {Given Held : Type 0} → Bool → Refusal → Held → Reply (Result Given Refusal) Held → Reply (Result Given Refusal) Held
 reply_if_passed passed e h work = if passed then work else reply (Err e) h
 
+-- a call, given the answer of the one before it and what that left; a refusal ends both
+abbrev pub unless_refused : {First Second Held : Type 0} → Result First Refusal → Held → (First → Held → Reply (Result Second Refusal) Held) → Reply (Result Second Refusal) Held
+unless_refused (Ok v) left next = next v left
+unless_refused (Err e) left next = reply (Err e) left
+
+-- one call after another: the answer of the second, or the refusal that ends them
+abbrev pub and_then : {First Second Held : Type 0} → Reply (Result First Refusal) Held → (First → Held → Reply (Result Second Refusal) Held) → Reply (Result Second Refusal) Held
+and_then r next = unless_refused r.said r.left next
+
+-- a call that is never refused, as one that could be
+abbrev pub never_refused : {Given Held : Type 0} → Reply Given Held → Reply (Result Given Refusal) Held
+never_refused r = reply (Ok r.said) r.left
+
 -- an observe, by what it leaves or how it refuses; refused, it leaves what it met
 abbrev pub observe_of : {Held : Type 0} → Result Held Refusal → Held → Reply (Result (Unit {0}) Refusal) Held
 observe_of (Ok g) h = reply (Ok tt) g

@@ -1,11 +1,34 @@
-// Observing codes one by one, over any way to observe one.
-ghost use Rattle.std.specs.Prelude.{◌≡◌, ℕ, ◌<◌};
+// Observing values and digests; codes one by one, over any way to observe one.
+ghost use Rattle.std.specs.Prelude.{◌≡◌, ℕ, ◌<◌, List, Result};
+ghost use Rattle.refusal.specs.declared.Refusal.{Refusal as RefusalT};
 ghost use Rattle.challenger_traits.specs.Meaning.{Does, observe_of};
 ghost use Rattle.challenger_traits.specs.Observing.{after_observe_codes};
 
 use crate::Holding;
 use domain::all_codes;
 use refusal::Refusal;
+
+/// Observing values: codes, or bytes.
+pub trait CanObserve<T>: Holding {
+    // What an observe leaves, or its refusal.
+    ghost after_observe: { Self.Make → Self.Held → List T → Result (Self.Held) RefusalT };
+
+    fn observe(&mut self, values: &[T]) -> Result<(), Refusal>
+        ensures does { Does Self.make Self.held_value self.old self.new result
+            (observe_of (after_observe (Self.make self.old) (Self.held_value self.old) values.now)
+            (Self.held_value self.old)) };
+}
+
+/// Observing a digest, given as its values: codes, words or bytes.
+pub trait CanObserveDigest<T>: Holding {
+    // What observing a digest leaves, or its refusal.
+    ghost after_observe_digest: { Self.Make → Self.Held → List T → Result (Self.Held) RefusalT };
+
+    fn observe_digest(&mut self, digest: &[T]) -> Result<(), Refusal>
+        ensures does { Does Self.make Self.held_value self.old self.new result
+            (observe_of (after_observe_digest (Self.make self.old) (Self.held_value self.old)
+            digest.now) (Self.held_value self.old)) };
+}
 
 /// Observing one code below `ORDER`.
 pub trait CanObserveCode<const ORDER: u64>: Holding {

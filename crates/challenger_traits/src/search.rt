@@ -1,7 +1,8 @@
 // Check and grind, as any challenger can do them.
-ghost use Rattle.std.specs.Prelude.{◌≡◌, ℕ, Bool, List};
-ghost use Rattle.challenger_traits.specs.Meaning.{Does, bits_fit};
+ghost use Rattle.std.specs.Prelude.{◌≡◌, ℕ, Bool, true, List, Ok, IfOk, IfErr};
+ghost use Rattle.challenger_traits.specs.Meaning.{Does, reply, bits_fit};
 ghost use Rattle.challenger_traits.specs.Grinding.{at_make, check_of, grind_of, LeastWitness};
+ghost use Rattle.challenger_traits.specs.Grinding.{CheckRefused};
 
 use crate::{CanObserve, CanSampleBits, CanStartCheck};
 use refusal::Refusal;
@@ -16,7 +17,7 @@ pub fn bits_fit(order: u64, bits: u64) -> bool
 
 /// A check from its parts: the start, the observed witness, the drawn bits.
 #[tactic(auto, unfolding(crate::specs::Grinding::check_of))]
-pub fn check_by_parts<C: CanObserve + CanSampleBits + CanStartCheck + Copy>(
+pub fn check_by_parts<C: CanObserve<u64> + CanSampleBits + CanStartCheck + Copy>(
     c: &mut C,
     bits: u64,
     witness: u64,
@@ -24,6 +25,8 @@ pub fn check_by_parts<C: CanObserve + CanSampleBits + CanStartCheck + Copy>(
     ensures does { Does C.make C.held_value c.old c.new result
         (check_of (at_make C.after_observe C.drawing C.check_start (C.make c.old))
         (C.held_value c.old) bits witness) }
+    ensures refusals { IfErr result
+        (CheckRefused (C.drawing (C.make c.old)).order bits witness) }
 {
     let order = c.order();
     if !bits_fit(order, bits) {
@@ -44,8 +47,8 @@ pub fn check_by_parts<C: CanObserve + CanSampleBits + CanStartCheck + Copy>(
 }
 
 /// The search that any challenger may use: each candidate is checked on a copy.
-#[tactic(auto, unfolding(crate::specs::Grinding::grind_of))]
-pub fn grind_by_trial<C: CanObserve + CanSampleBits + CanStartCheck + Copy>(
+#[tactic(auto, unfolding(crate::specs::Grinding::grind_of, crate::specs::Grinding::check_of))]
+pub fn grind_by_trial<C: CanObserve<u64> + CanSampleBits + CanStartCheck + Copy>(
     c: &mut C,
     bits: u64,
     budget: u64,
@@ -53,6 +56,9 @@ pub fn grind_by_trial<C: CanObserve + CanSampleBits + CanStartCheck + Copy>(
     ensures does { Does C.make C.held_value c.old c.new result
         (grind_of (at_make C.after_observe C.drawing C.check_start (C.make c.old))
         (C.held_value c.old) bits budget) }
+    ensures passes { IfOk result (λ ground. check_of
+        (at_make C.after_observe C.drawing C.check_start (C.make c.old)) (C.held_value c.old) bits
+        ground.0 ≡ reply (Ok true) (C.held_value c.new)) }
     ensures least { LeastWitness (at_make C.after_observe C.drawing C.check_start (C.make c.old))
         (C.held_value c.old) bits budget (record { said = result; left = C.held_value c.new }) }
 {

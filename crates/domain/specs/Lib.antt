@@ -3,3 +3,4 @@ pub mod Operations
 pub mod ModularProofs
 pub mod Modular
 pub mod Codes
+pub mod SameArithmetic

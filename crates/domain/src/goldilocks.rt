@@ -1,14 +1,14 @@
 // Goldilocks.
 ghost use Rattle.domain.specs.Modular.{goldilocks};
 
-use crate::Domain;
 use crate::modulo::sum_modulo;
+use crate::{Domain, GOLDILOCKS_ORDER};
 
 /// The codes below 18446744069414584321.
 #[derive(Clone, Copy)]
 pub struct Goldilocks;
 
-impl Domain<18446744069414584321> for Goldilocks {
+impl Domain<GOLDILOCKS_ORDER> for Goldilocks {
     ghost arithmetic = { goldilocks };
 
     fn single() -> u32 {
@@ -16,7 +16,7 @@ impl Domain<18446744069414584321> for Goldilocks {
     }
 
     fn add(a: u64, b: u64) -> u64 {
-        sum_modulo(18446744069414584321, a, b)
+        sum_modulo(GOLDILOCKS_ORDER, a, b)
     }
 
     fn stir(a: u64) -> u64 {

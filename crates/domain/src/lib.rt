@@ -10,12 +10,14 @@ mod codes;
 mod goldilocks;
 mod koala_bear;
 mod modulo;
+mod orders;
 
 pub use baby_bear::BabyBear;
 pub use bytes::Bytes;
 pub use codes::all_codes;
 pub use goldilocks::Goldilocks;
 pub use koala_bear::KoalaBear;
+pub use orders::{BABY_BEAR_ORDER, BYTES_ORDER, GOLDILOCKS_ORDER, KOALA_BEAR_ORDER};
 
 /// A domain of the codes below `ORDER`.
 pub trait Domain<const ORDER: u64> {

@@ -1,1 +1,2 @@
 pub mod Prepared
+pub mod Bytewise

@@ -12,10 +12,9 @@ use Rattle.sponge.specs.declared.Sponge.{Sponge}
 use Rattle.sponge.specs.Sponge.{SpongeMake, SpongeState, block_turn, last_output}
 use Rattle.sponge.specs.Sponge.{after_turn as sponge_after_turn}
 use Rattle.sponge.specs.SpongeHeld.{held_value as sponge_held, make_meaning}
-use Rattle.sponge.proofs.Absorbing.{Words}
-use Rattle.sponge.proofs.Turning.{rate_small}
+use Rattle.sponge.specs.AbsorbingProofs.{Words}
+use Rattle.sponge.proofs.Turning.{length_code, block-full}
 use Rattle.prepared_grind.specs.Tests.{with_last}
-use Rattle.prepared_grind.proofs.Written.{block-full}
 use Rattle.duplex_challenger.specs.declared.held.DuplexHeld.{DuplexHeld}
 use Rattle.duplex_challenger.specs.Rules.{duplex_held, after_turn, after_code, with_output, sample_of}
 use Rattle.refusal.specs.declared.limits.TheConstants.{WIDEST_ROW}
@@ -28,7 +27,7 @@ module _ {order : ℕ} (k : SpongeMake order) (h : DuplexHeld) (w : ℕ) where
   abbrev pub block : List ℕ
   block = (block_turn k h.row (h.pending ++ (w ∷ [])) (length (h.pending ++ (w ∷ [])))).outputs
 
-  abbrev more : DuplexHeld
+  abbrev pub more : DuplexHeld
   more = duplex_held h.row (h.pending ++ (w ∷ [])) []
 
   some : 0 < length (h.pending ++ (w ∷ []))
@@ -47,7 +46,7 @@ module _ {order : ℕ} (k : SpongeMake order) (h : DuplexHeld) (w : ℕ) where
   with_output-more = ap (λ x. if x || eqb 0 0 then after_turn k more else more) (lt-ltb 0 (length more.pending) some)
 
   -- one turn comes, at the latest when a sample is asked for
-  with_output_is : 1 ≤ length (after_turn k more).outputs → with_output k (after_code k h w) ≡ after_turn k more
+  pub with_output_is : 1 ≤ length (after_turn k more).outputs → with_output k (after_code k h w) ≡ after_turn k more
   unfolding after_code
   with_output_is any =
       elim (cases_Bool (eqb (length more.pending) k.rate)) [
@@ -72,4 +71,4 @@ full {order = order} s b w lt room =
     let l : length xs ≡ length (items b) + 1 = length-append (items b) (w ∷ []) in
     let last : HasOnlyCodes order (w ∷ []) = λ k i. (let z : k ≡ 0 = omega (arith, i) in rw z lt) in
     let words : Words order s.rate xs = record { few = omega (arith, l, room); codes = codes-append order (items b) (w ∷ []) b.codes last } in
-    omega (arith, s.some, block-full s xs (length xs) words (omega (arith, l, room, rate_small s)))
+    omega (arith, s.some, block-full s xs (length xs) words (length_code s (length xs) words.few))

@@ -2,11 +2,16 @@ pub use Rattle.buffer.specs.Items
 pub use Rattle.challenger_traits.specs.Meaning
 pub use Rattle.challenger_traits.specs.Observing
 pub use Rattle.prepared_grind.specs.Blocks
+pub use Rattle.refusal.specs.Made
+pub use Rattle.runs.specs.Interface
 pub use Rattle.runs.specs.Runs
 pub use Rattle.sampling.specs.Uniform
+pub use Rattle.sponge.specs.SameSponge
 pub use Rattle.sponge.specs.Sponge
 pub use Rattle.sponge.specs.SpongeHeld
 pub mod Rules
 pub mod Holds
 pub mod Calls
+pub mod SameProofs
 pub mod Bytes
+pub mod HeldProofs

@@ -1,16 +1,16 @@
 // The duplex challenger over bytes, as a byte transcript.
 ghost use Rattle.std.specs.Prelude.{◌≡◌, ℕ, true, List, refl};
-ghost use Rattle.buffer.specs.Items.{items};
 ghost use Rattle.sponge.specs.SpongeHeld.{meaning_of_make};
 ghost use Rattle.duplex_challenger.specs.Bytes.{byte_transcript};
+ghost use Rattle.duplex_challenger.specs.HeldProofs.{transcript_stays};
 
 use crate::DuplexChallenger;
-use buffer::Buffer;
-use byte_transcript::{ByteGrindingChallenger, ByteTranscript, CanFinalizeDigest, find_by_trial};
+use byte_transcript::{
+    ByteGrindingChallenger, ByteTranscript, CanFinalizeTranscript, find_by_trial,
+};
 use domain::{Bytes, Domain};
 use permutation::CryptographicPermutation;
 use refusal::Refusal;
-use refusal::limits::WIDEST_ROW;
 
 /// The room of a transcript that takes any number of bytes.
 pub const UNBOUNDED_ROOM: u64 = 18446744073709551615;
@@ -28,6 +28,9 @@ impl<D: ByteDomain<ORDER>, P: CryptographicPermutation<D, ORDER>, const ORDER: u
     for DuplexChallenger<D, P, ORDER> {
     ghost meaning = { λ m. byte_transcript (meaning_of_make D.arithmetic P.image m) };
 
+    ghost stays_held = { λ m. transcript_stays (meaning_of_make D.arithmetic P.image m)
+        (P.lawful m.permutation) };
+
     fn room(&self) -> u64 {
         UNBOUNDED_ROOM
     }
@@ -40,6 +43,8 @@ impl<D: ByteDomain<ORDER>, P: CryptographicPermutation<D, ORDER>, const ORDER: u
     fn sample_byte(&mut self) -> u8 {
         self.sample() as u8
     }
+
+    ghost meaning_covers = { λ m h ok. ok };
 }
 
 impl<
@@ -56,12 +61,6 @@ impl<
     D: ByteDomain<ORDER>,
     P: CryptographicPermutation<D, ORDER> + Drop,
     const ORDER: u64,
-> CanFinalizeDigest for DuplexChallenger<D, P, ORDER> {
-    type Digest = Buffer<ORDER, WIDEST_ROW>;
-
-    ghost digest_numbers = { items };
-
-    fn finalize(self) -> Buffer<ORDER, WIDEST_ROW> {
-        self.finalize()
-    }
+> CanFinalizeTranscript for DuplexChallenger<D, P, ORDER> {
+    ghost digest_is = { λ m h. refl };
 }

@@ -1,31 +1,25 @@
 // The challenger and its single calls.
-ghost use Rattle.std.specs.Prelude.{◌≡◌, ◌<◌, ◌≤◌, ◌&&◌, [], length, MatchResult, ◌==◌, IsTrue};
-ghost use Rattle.std.specs.Prelude.{IsFalse};
-ghost use Rattle.refusal.specs.declared.Refusal.TheVariants.{Shape};
+ghost use Rattle.std.specs.Prelude.{◌≡◌, ◌<◌, ◌≤◌, [], length, IsTrue};
+ghost use Rattle.refusal.specs.Made.{MadeUnless};
+ghost use Rattle.domain.specs.Codes.{all_codes};
 ghost use Rattle.buffer.specs.Items.{items};
-ghost use Rattle.challenger_traits.specs.Meaning.{Does, observe_of};
-ghost use Rattle.runs.specs.Runs.{OneMake};
-ghost use Rattle.sponge.specs.SpongeHeld.{is_shape, held_value as sponge_held};
+ghost use Rattle.challenger_traits.specs.Meaning.{Does};
+ghost use Rattle.sponge.specs.SpongeHeld.{shape_no, held_value as sponge_held};
 ghost use Rattle.sponge.specs.SpongeHeld.{make_meaning as sponge_make_meaning, SameMake};
 ghost use Rattle.sponge.specs.Sponge.{after_turn as sponge_after_turn};
-ghost use Rattle.sampling.specs.Uniform.{uniform_of};
 ghost use Rattle.challenger_traits.specs.Observing.{after_codes};
-ghost use Rattle.duplex_challenger.specs.Rules.{fresh_value as fresh_of};
 ghost use Rattle.duplex_challenger.specs.Rules.{after_code as after_code_of};
-ghost use Rattle.duplex_challenger.specs.Rules.{after_observe as after_observe_of, with_output};
-ghost use Rattle.duplex_challenger.specs.Rules.{sample_of, final_rate};
+ghost use Rattle.duplex_challenger.specs.Rules.{with_output, sample_of, final_rate};
 ghost use Rattle.duplex_challenger.specs.Holds.{held_value as held_in, make as make_of};
 ghost use Rattle.duplex_challenger.specs.Holds.{make_meaning, IsFresh};
-ghost use Rattle.duplex_challenger.specs.Calls.{rule as rule_of};
 
 use crate::DuplexChallenger;
 use buffer::Buffer;
-use challenger_traits::{CanObserve, CanObserveCode};
+use challenger_traits::CanObserveCode;
 use domain::Domain;
 use permutation::CryptographicPermutation;
 use refusal::Refusal;
 use refusal::limits::WIDEST_ROW;
-use sampling::uniform_bits;
 use sponge::Sponge;
 
 /// One turn: what is pending is absorbed, if there is some, and the row is permuted.
@@ -51,8 +45,7 @@ impl<
 > DuplexChallenger<D, P, ORDER> {
     /// A fresh challenger; refused if RATE is 0 or not below WIDTH, or WIDTH is above `WIDEST_ROW`.
     pub fn new(width: usize, rate: usize, permutation: P) -> Result<Self, Refusal>
-        ensures { MatchResult result (IsFresh width rate permutation)
-            (λ e. IsFalse (is_shape width rate) × (e ≡ Shape)) }
+        ensures { MadeUnless (shape_no width rate) (IsFresh width rate permutation) result }
     {
         let sponge = Sponge::new(width, rate, permutation)?;
         Ok(DuplexChallenger {
@@ -90,20 +83,12 @@ impl<D: Domain<ORDER>, P: CryptographicPermutation<D, ORDER>, const ORDER: u64> 
     pub fn observe_byte_codes(&mut self, bytes: &[u8])
         ensures state { held_in self.new ≡ after_codes (after_code_of (make_meaning self.old))
             (held_in self.old) bytes.now }
+        ensures codes { IsTrue (all_codes ORDER bytes.now) }
         ensures make { make_of self.new ≡ make_of self.old }
     {
         for b in bytes {
             self.observe_code(*b as u64);
         }
-    }
-
-    /// Observes a digest: its codes.
-    pub fn observe_digest(&mut self, codes: &[u64]) -> Result<(), Refusal>
-        ensures does { Does make_of held_in self.old self.new result
-            (observe_of (after_observe_of (make_meaning self.old) (held_in self.old) codes.now)
-            (held_in self.old)) }
-    {
-        self.observe(codes)
     }
 
     /// Turns, if codes are pending or no output is left.
@@ -128,30 +113,6 @@ impl<D: Domain<ORDER>, P: CryptographicPermutation<D, ORDER>, const ORDER: u64> 
     {
         self.ensure_output();
         self.sponge.pop_output()
-    }
-
-    /// Bits without bias, each bounded draw within the limit; at bits 0 it gives 0 and moves nothing.
-    pub fn sample_uniform_bits(&mut self, bits: u64, limit: u64) -> Result<u64, Refusal>
-        ensures does { Does make_of held_in self.old self.new result
-            (uniform_of (sample_of (make_meaning self.old)) ORDER D.arithmetic.single
-            (held_in self.old) bits limit) }
-    {
-        uniform_bits(self, ORDER, D::single() as u64, bits, limit)
-    }
-
-    /// Have both the same WIDTH and RATE? Then, over equal arithmetic and permutations of equal image, they are of one make.
-    pub fn same_numbers<E: Domain<ORDER>, Q: CryptographicPermutation<E, ORDER>>(
-        &self,
-        other: &DuplexChallenger<E, Q, ORDER>,
-    ) -> bool
-        ensures value { result ≡ ((make_of self.now).width == (make_of other.now).width
-            && (make_of self.now).rate == (make_of other.now).rate) }
-        ensures make { IsTrue result → D.arithmetic ≡ E.arithmetic
-            → (make_meaning self.now).image ≡ (make_meaning other.now).image
-            → OneMake (rule_of (make_meaning self.now)) (rule_of (make_meaning other.now))
-            (fresh_of (make_meaning self.now)) (fresh_of (make_meaning other.now)) }
-    {
-        self.width() == other.width() && self.rate() == other.rate()
     }
 
     /// WIDTH.

@@ -1,5 +1,8 @@
 // Checking and grinding.
 ghost use Rattle.prepared_grind.specs.Blocks.{last_output_with};
+ghost use Rattle.sponge.specs.SpongeHeld.{meaning_of_make};
+ghost use Rattle.challenger_traits.specs.ObservingProofs.{code_taken};
+ghost use Rattle.duplex_challenger.specs.Rules.{after_code as after_code_of};
 
 use crate::DuplexChallenger;
 use challenger_traits::{CanStartCheck, GrindingChallenger, check_by_parts};
@@ -13,6 +16,9 @@ impl<D: Domain<ORDER>, P: CryptographicPermutation<D, ORDER>, const ORDER: u64> 
     ghost check_start = { λ m h. h };
 
     fn start_check(&mut self) {}
+
+    ghost takes_code = { λ m h w ok lt. code_taken ORDER
+        (after_code_of (meaning_of_make D.arithmetic P.image m)) h w lt };
 }
 
 impl<

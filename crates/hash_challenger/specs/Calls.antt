@@ -5,6 +5,8 @@ use Rattle.runs.specs.declared.call.Call.TheVariants.{ObserveBytes, ObserveDiges
 use Rattle.runs.specs.declared.answer.Answer.TheVariants.{Code, Absent}
 use Rattle.runs.specs.Answers.{as_done, answer_reply}
 use Rattle.runs.specs.Runs.{Rule, ChecksStand}
+use Rattle.runs.specs.Lent.{ReadsNumbers}
+use Rattle.runs.specs.LentProofs.{reads_numbers}
 use Rattle.hash_state.specs.declared.held.HashHeld.{HashHeld}
 use Rattle.hash_state.specs.Rules.{after_observe, sample_of}
 
@@ -18,3 +20,6 @@ module _ (digest : List ℕ → List ℕ) where
 
   pub stands : ChecksStand rule
   stands h b n = refl
+
+  pub reads : ReadsNumbers rule
+  reads = reads_numbers rule (λ h xs. refl) (λ h xs. refl) (λ h xs. refl) (λ h xs. refl) (λ h xs. refl)

@@ -1,6 +1,9 @@
 pub use Rattle.hash_state.specs.Rules
+pub use Rattle.hasher.specs.SameDigests
+pub use Rattle.refusal.specs.Made
 pub use Rattle.runs.specs.Runs
 pub mod RoomProofs
 pub mod Meaning
 pub mod Holds
 pub mod Calls
+pub mod SameProofs

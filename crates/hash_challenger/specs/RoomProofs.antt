@@ -1,5 +1,5 @@
 -- Proof only: what a hash challenger holds obeys the laws of the room.
-use Rattle.std.specs.Prelude.{◌≡◌, ℕ, ◌≤◌, true, List, [], ◌∷◌, length, ◌==◌, nat_le, refl}
+use Rattle.std.specs.Prelude.{◌≡◌, ℕ, ◌≤◌, true, List, [], ◌∷◌, length, ◌==◌, nat_le}
 use Rattle.std.proofs.Common.{⊎_elim, arith, length-append}
 use Rattle.std.proofs.lemmas.Bool.{cond_both, or_right, or_cases, le-leb, leb-true, both_ways}
 use Rattle.hasher.specs.Hashing.{IsHashFunction}
@@ -21,8 +21,9 @@ module _ {n : ℕ} (digest : List ℕ → List ℕ) (hashing : IsHashFunction n 
 
   pub room-laws : RoomLaws can_be_held (λ h b. after_append h (b ∷ [])) (λ h. (sample_of digest h).left) room
   room-laws = record {
-    can_be_held_after_byte = λ h b ok some. refl;
-    can_be_held_after_draw = λ h ok. or_right (length (sample_of digest h).left.outputs == 0) (nat_le (length (with_output digest h).input) LONGEST_DIGEST) (le-leb (length (with_output digest h).input) LONGEST_DIGEST (short h ok));
     lowers = λ h b. let e = length-append h.input (b ∷ []) in omega arith;
     room_after_draw = λ h ok. let l = short h ok in omega arith;
   }
+
+  pub after_draw-held : (h : HashHeld) → can_be_held h ≡ true → can_be_held (sample_of digest h).left ≡ true
+  after_draw-held h ok = or_right (length (sample_of digest h).left.outputs == 0) (nat_le (length (with_output digest h).input) LONGEST_DIGEST) (le-leb (length (with_output digest h).input) LONGEST_DIGEST (short h ok))

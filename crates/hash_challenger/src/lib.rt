@@ -1,24 +1,22 @@
 //! The hash challenger: bytes are appended to an input, and outputs are digests of it.
 #![tactic(auto)]
 
-ghost use Rattle.std.specs.Prelude.{◌≡◌, ℕ, List, [], ◌↔◌, MatchResult, IsTrue};
-ghost use Rattle.std.specs.Prelude.{IsFalse};
-ghost use Rattle.refusal.specs.declared.Refusal.TheVariants.{InitialState};
-ghost use Rattle.challenger_traits.specs.Meaning.{Does, observe_of};
-ghost use Rattle.hash_state.specs.Rules.{is_initial, fresh_value, after_observe, can_be_held};
-ghost use Rattle.hash_state.specs.Rules.{sample_of};
-ghost use Rattle.runs.specs.Runs.{OneMake};
-ghost use Rattle.hash_challenger.specs.Holds.{held_value as held_in, make as make_of};
-ghost use Rattle.hash_challenger.specs.Calls.{rule as rule_of};
+ghost use Rattle.std.specs.Prelude.{◌≡◌, IsTrue, refl};
+ghost use Rattle.refusal.specs.Made.{MadeUnless};
+ghost use Rattle.challenger_traits.specs.Meaning.{Does};
+ghost use Rattle.hash_state.specs.Rules.{initial_no, can_be_held, sample_of};
+ghost use Rattle.hash_challenger.specs.Holds.{held_value as held_in, make as make_of, IsFresh};
 ghost use Rattle.hash_challenger.specs.Meaning.{hash_transcript};
+ghost use Rattle.hash_challenger.specs.SameProofs.{transcript_stays};
 
 mod calls;
+mod traits;
 
 use byte_transcript::{
-    ByteGrindingChallenger, ByteTranscript, CanFinalizeDigest, candidate_count, find_by_trial,
+    ByteGrindingChallenger, ByteTranscript, CanFinalizeTranscript, candidate_count, find_by_trial,
 };
-use challenger_traits::Holding;
-use hash_state::{HashHeld, HashState, PreparedInput};
+use challenger_traits::CanObserve;
+use hash_state::{HashState, PreparedInput};
 use hasher::CryptographicHasher;
 use refusal::Refusal;
 
@@ -33,9 +31,7 @@ pub struct HashChallenger<H: CryptographicHasher<N>, const N: usize> {
 impl<H: CryptographicHasher<N> + Drop, const N: usize> HashChallenger<H, N> {
     /// A fresh challenger, which holds the initial bytes and no output; refused if there are more than `LONGEST_INPUT`.
     pub fn new(initial: &[u8], hasher: H) -> Result<Self, Refusal>
-        ensures { MatchResult result (λ s. IsTrue (is_initial initial.now) × (make_of s ≡ hasher)
-            × (held_in s ≡ fresh_value initial.now))
-            (λ e. IsFalse (is_initial initial.now) × (e ≡ InitialState)) }
+        ensures { MadeUnless (initial_no initial.now) (IsFresh initial.now hasher) result }
     {
         let state = HashState::new(initial)?;
         Ok(HashChallenger { hasher, state })
@@ -43,33 +39,17 @@ impl<H: CryptographicHasher<N> + Drop, const N: usize> HashChallenger<H, N> {
 
     /// Ends the challenger: the digest of the input.
     pub fn finalize(self) -> [u8; N]
-        ensures { result ≡ H.digest (held_in self).input }
+        ensures { result ≡ H.digest (make_of self) (held_in self).input }
     {
         self.hasher.hash(self.state.input())
     }
 }
 
 impl<H: CryptographicHasher<N>, const N: usize> HashChallenger<H, N> {
-    /// Observes all the bytes, or none if they exceed the room.
-    pub fn observe(&mut self, bytes: &[u8]) -> Result<(), Refusal>
-        ensures does { Does make_of held_in self.old self.new result
-            (observe_of (after_observe (held_in self.old) bytes.now) (held_in self.old)) }
-    {
-        self.state.observe(bytes)
-    }
-
-    /// Observes a digest: its bytes.
-    pub fn observe_digest(&mut self, bytes: &[u8]) -> Result<(), Refusal>
-        ensures does { Does make_of held_in self.old self.new result
-            (observe_of (after_observe (held_in self.old) bytes.now) (held_in self.old)) }
-    {
-        self.observe(bytes)
-    }
-
     /// The last output; if none is left, the input and the outputs first become the digest of the input. What is held is one of the values that can be.
     pub fn sample(&mut self) -> u8
         ensures does { Does make_of held_in self.old self.new result
-            (sample_of H.digest (held_in self.old)) }
+            (sample_of (H.digest (make_of self.old)) (held_in self.old)) }
         ensures can_be_held { IsTrue (can_be_held (held_in self.old)) }
     {
         self.state.sample::<H, N>(&self.hasher)
@@ -88,35 +68,12 @@ impl<H: CryptographicHasher<N>, const N: usize> HashChallenger<H, N> {
     {
         self.state.outputs()
     }
-
-    /// Do both hold the same? If so, and if the hashers give the same digests, each call means the same to both from here on.
-    pub fn same_held<I: CryptographicHasher<M>, const M: usize>(
-        &self,
-        other: &HashChallenger<I, M>,
-    ) -> bool
-        ensures value { IsTrue result ↔ (held_in self.now ≡ held_in other.now) }
-        ensures make { IsTrue result → H.digest ≡ I.digest
-            → OneMake (rule_of H.digest) (rule_of I.digest) (held_in self.now) (held_in other.now) }
-    {
-        self.state.same_held(&other.state)
-    }
-}
-
-impl<H: CryptographicHasher<N>, const N: usize> Holding for HashChallenger<H, N> {
-    type Make = H;
-
-    type Held = HashHeld;
-
-    ghost make = { make_of };
-
-    ghost held_value = { held_in };
-
-    // made with no initial bytes
-    ghost fresh_value = { λ _. fresh_value [] };
 }
 
 impl<H: CryptographicHasher<N>, const N: usize> ByteTranscript for HashChallenger<H, N> {
-    ghost meaning = { λ _. hash_transcript H.digest H.hashing };
+    ghost meaning = { λ h. hash_transcript (H.digest h) (H.hashing h) };
+
+    ghost stays_held = { λ h. transcript_stays (H.digest h) (H.hashing h) };
 
     fn room(&self) -> u64 {
         self.state.room() as u64
@@ -130,6 +87,8 @@ impl<H: CryptographicHasher<N>, const N: usize> ByteTranscript for HashChallenge
     fn sample_byte(&mut self) -> u8 {
         self.sample()
     }
+
+    ghost meaning_covers = { λ h v ok. ok };
 }
 
 impl<H: CryptographicHasher<N> + Copy, const N: usize> ByteGrindingChallenger
@@ -149,12 +108,7 @@ impl<H: CryptographicHasher<N> + Copy, const N: usize> ByteGrindingChallenger
     }
 }
 
-impl<H: CryptographicHasher<N> + Drop, const N: usize> CanFinalizeDigest for HashChallenger<H, N> {
-    type Digest = [u8; N];
-
-    ghost digest_numbers = { λ d. d };
-
-    fn finalize(self) -> [u8; N] {
-        self.finalize()
-    }
+impl<H: CryptographicHasher<N> + Drop, const N: usize> CanFinalizeTranscript
+    for HashChallenger<H, N> {
+    ghost digest_is = { λ h v. refl };
 }

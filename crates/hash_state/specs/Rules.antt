@@ -1,7 +1,7 @@
 -- The rules of the hash challenger, on what it holds.
-use Rattle.std.specs.Prelude.{ℕ, ◌-◌, Bool, ◌||◌, List, [], ◌∷◌, ◌++◌, length, take, Ok, Err, Result, ◌==◌, nat_le, slice_index, if◌then◌else◌}
+use Rattle.std.specs.Prelude.{ℕ, ◌-◌, Bool, ◌||◌, List, [], ◌∷◌, ◌++◌, length, take, Some, None, Option, Ok, Err, Result, ◌==◌, nat_le, slice_index, if◌then◌else◌}
 use Rattle.refusal.specs.declared.Refusal.{Refusal}
-use Rattle.refusal.specs.declared.Refusal.TheVariants.{Room}
+use Rattle.refusal.specs.declared.Refusal.TheVariants.{InitialState, Room}
 use Rattle.challenger_traits.specs.Meaning.{Reply, reply}
 use Rattle.hash_state.specs.declared.held.HashHeld.{HashHeld}
 use Rattle.hasher.specs.declared.TheConstants.{LONGEST_DIGEST}
@@ -17,6 +17,10 @@ fresh_value initial = hash_held initial []
 -- has the initial state at most so many bytes?
 abbrev pub is_initial : List ℕ → Bool
 is_initial initial = nat_le (length initial) LONGEST_INPUT
+
+-- the question of making
+abbrev pub initial_no : List ℕ → Option Refusal
+initial_no initial = if is_initial initial then None else Some InitialState
 
 abbrev pub room : HashHeld → ℕ
 room h = LONGEST_INPUT - length h.input

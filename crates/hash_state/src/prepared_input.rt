@@ -57,7 +57,7 @@ impl PreparedInput {
     ) -> bool
         requires four { 4 ≤ N }
         ensures value { result ≡ (bit_and (end_word
-            (H.digest (front self.old ++ le_bytes candidate))) mask == 0) }
+            (H.digest hasher.now (front self.old ++ le_bytes candidate))) mask == 0) }
         ensures front { front self.new ≡ front self.old }
     {
         self.write(candidate);

@@ -18,20 +18,19 @@ pub struct HashState {
 }
 
 impl HashState {
-    ghost use Rattle.std.specs.Prelude.{◌≡◌, ℕ, ◌+◌, ◌<◌, ◌≤◌, List, length, ◌↔◌, MatchResult};
+    ghost use Rattle.std.specs.Prelude.{◌≡◌, ℕ, ◌+◌, ◌<◌, ◌≤◌, List, length};
     ghost use Rattle.std.specs.Prelude.{nat_le};
-    ghost use Rattle.refusal.specs.declared.Refusal.TheVariants.{InitialState};
+    ghost use Rattle.refusal.specs.Made.{MadeUnless};
     ghost use Rattle.challenger_traits.specs.Meaning.{observe_of};
-    ghost use Rattle.hash_state.specs.Rules.{is_initial, hash_held, fresh_value, room, can_be_held};
+    ghost use Rattle.hash_state.specs.Rules.{initial_no, hash_held, fresh_value, room, can_be_held};
     ghost use Rattle.hash_state.specs.Rules.{after_append, after_observe, with_output, sample_of};
     ghost use Rattle.hash_state.specs.Rules.{last_output, without_output};
     ghost use Rattle.hash_state.specs.Holds.{held_value};
 
     /// The initial bytes and no output; refused if there are more than `LONGEST_INPUT`.
     pub fn new(initial: &[u8]) -> Result<HashState, Refusal>
-        ensures { MatchResult result (λ s. IsTrue (is_initial initial.now)
-            × (held_value s ≡ fresh_value initial.now))
-            (λ e. IsFalse (is_initial initial.now) × (e ≡ InitialState)) }
+        ensures { MadeUnless (initial_no initial.now)
+            (λ s. held_value s ≡ fresh_value initial.now) result }
     {
         let input = ByteList::new(initial).ok_or(Refusal::InitialState)?;
         Ok(HashState { input, left: 0 })
@@ -72,7 +71,8 @@ impl HashState {
 
     /// With no output left, the input and the outputs become the digest of the input.
     fn ensure_output<H: CryptographicHasher<N>, const N: usize>(&mut self, hasher: &H)
-        ensures state { held_value self.new ≡ with_output H.digest (held_value self.old) }
+        ensures state { held_value self.new
+            ≡ with_output (H.digest hasher.now) (held_value self.old) }
         ensures some { 0 < self.new.left }
     {
         if self.left > 0 {
@@ -95,8 +95,9 @@ impl HashState {
 
     /// The last output, after a draw if none is left. What is held is one of the values that can be.
     pub fn sample<H: CryptographicHasher<N>, const N: usize>(&mut self, hasher: &H) -> u8
-        ensures said { result ≡ (sample_of H.digest (held_value self.old)).said }
-        ensures left { held_value self.new ≡ (sample_of H.digest (held_value self.old)).left }
+        ensures said { result ≡ (sample_of (H.digest hasher.now) (held_value self.old)).said }
+        ensures left { held_value self.new
+            ≡ (sample_of (H.digest hasher.now) (held_value self.old)).left }
         ensures can_be_held { IsTrue (can_be_held (held_value self.old)) }
     {
         self.ensure_output::<H, N>(hasher);
@@ -115,13 +116,5 @@ impl HashState {
         ensures { result.now ≡ (held_value self.now).outputs }
     {
         &self.input.as_slice()[..self.left]
-    }
-
-    /// Do both hold the same?
-    // A derived equality would also compare the cells past the count, which are not held.
-    pub fn same_held(&self, other: &HashState) -> bool
-        ensures { IsTrue result ↔ (held_value self.now ≡ held_value other.now) }
-    {
-        self.input() == other.input() && self.outputs() == other.outputs()
     }
 }

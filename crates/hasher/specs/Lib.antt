@@ -1,2 +1,3 @@
 pub mod Hashing
 pub mod HashingProofs
+pub mod SameDigests

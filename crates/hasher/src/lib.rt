@@ -10,15 +10,15 @@ pub const LONGEST_DIGEST: usize = 64;
 
 /// A hash function whose digests have `N` bytes.
 pub trait CryptographicHasher<const N: usize> {
-    // The digest of a list of bytes.
-    ghost digest: { List ℕ → List ℕ };
+    // The digest that a hasher gives of a list of bytes. Its value may carry a key, or be a choice among hash functions.
+    ghost digest: { Self → List ℕ → List ℕ };
 
     // What each hash function must prove.
-    ghost hashing: { IsHashFunction N digest };
+    ghost hashing: { (h : Self) → IsHashFunction N (digest h) };
 
     /// The digest of the input.
     fn hash(&self, input: &[u8]) -> [u8; N]
-        ensures { result ≡ digest input.now };
+        ensures { result ≡ digest self.now input.now };
 }
 
 /// Writes `from` into `to` at the place `at`; where there is no room it writes nothing.

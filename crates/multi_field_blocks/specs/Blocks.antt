@@ -9,12 +9,16 @@ use Rattle.packing.specs.Packing.{packed_words, group}
 abbrev pub scalars_block_turn : {order : ℕ} → ℕ → SpongeMake order → List ℕ → List ℕ → SpongeState
 scalars_block_turn {order = order} sampled k row scalars = block_turn k row (packed_words (code_bits sampled) (limbs sampled order) scalars) (length scalars)
 
+-- a turn with these words, from this row: as they are, they are a block tagged by their number
+abbrev pub words_block_turn : {order : ℕ} → SpongeMake order → List ℕ → List ℕ → SpongeState
+words_block_turn k row words = block_turn k row words (length words)
+
 module _ {order : ℕ} (k : SpongeMake order) where
   -- a turn with no block, if no output is left
   unfoldable pub with_outputs : SpongeState → SpongeState
   with_outputs s = if length s.outputs == 0 then empty_turn k s.row else s
 
-  -- the first n groups of RATE words, each a block tagged by the number of its words
+  -- the first n groups of RATE words, each a block
   abbrev pub after_groups : SpongeState → List ℕ → ℕ → SpongeState
   after_groups s ws zero = s
-  after_groups s ws (suc n) = block_turn k (after_groups s ws n).row (group k.rate ws n) (length (group k.rate ws n))
+  after_groups s ws (suc n) = words_block_turn k (after_groups s ws n).row (group k.rate ws n)

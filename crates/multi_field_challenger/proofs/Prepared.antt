@@ -12,7 +12,7 @@ use Rattle.multi_field_challenger.specs.declared.held.MultiHeld.{MultiHeld}
 use Rattle.multi_field_challenger.specs.Rules.{multi_held, sponge_of, after_flush, after_flush_if_pending, after_code, after_fill, with_scalar, sample_of}
 
 module _ {order : ℕ} (sampled : ℕ) (k : SpongeMake order) (h : MultiHeld) (w : ℕ) where
-  abbrev more : MultiHeld
+  abbrev pub more : MultiHeld
   more = multi_held h.row (h.pending ++ (w ∷ [])) [] []
 
   some : 0 < length (h.pending ++ (w ∷ []))
@@ -31,7 +31,7 @@ module _ {order : ℕ} (sampled : ℕ) (k : SpongeMake order) (h : MultiHeld) (w
   with_scalar-after_flush g e = ap (λ (x : MultiHeld). if eqb (length x.squeeze) 0 then after_fill sampled k x else x) e
 
   -- one flush comes, at the latest when a sample is asked for
-  with_scalar_is : with_scalar sampled k (after_code sampled k h w) ≡ after_fill sampled k (after_flush sampled k more)
+  pub with_scalar_is : with_scalar sampled k (after_code sampled k h w) ≡ after_fill sampled k (after_flush sampled k more)
   unfolding after_code
   with_scalar_is =
       elim (cases_Bool (eqb (length more.pending) (limbs sampled order * k.rate))) [

@@ -1,8 +1,15 @@
 pub use Rattle.buffer.specs.Items
 pub use Rattle.challenger_traits.specs.Meaning
+pub use Rattle.code_bits.specs.CodeBits
 pub use Rattle.multi_field_grind.specs.Scalars
+pub use Rattle.packing.specs.Powers
+pub use Rattle.refusal.specs.Made
+pub use Rattle.runs.specs.Interface
 pub use Rattle.runs.specs.Runs
+pub use Rattle.sponge.specs.SameSponge
 pub use Rattle.sponge.specs.SpongeHeld
 pub mod Rules
 pub mod Holds
 pub mod Calls
+pub mod SameProofs
+pub mod HeldProofs

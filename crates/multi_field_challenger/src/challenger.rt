@@ -1,21 +1,20 @@
 // The challenger and its single calls.
-ghost use Rattle.std.specs.Prelude.{◌≡◌, ◌<◌, ◌&&◌, [], length, Some, None, MatchResult, ◌==◌};
-ghost use Rattle.std.specs.Prelude.{IsTrue};
+ghost use Rattle.std.specs.Prelude.{◌≡◌, ◌<◌, [], length};
+ghost use Rattle.refusal.specs.Made.{MadeUnless};
 ghost use Rattle.buffer.specs.Items.{items};
-ghost use Rattle.challenger_traits.specs.Meaning.{Does, observe_of};
-ghost use Rattle.runs.specs.Runs.{OneMake};
-ghost use Rattle.multi_field_challenger.specs.Rules.{fresh_value as fresh_of};
-ghost use Rattle.multi_field_challenger.specs.Rules.{after_flush_if_pending, after_observe_digest};
-ghost use Rattle.multi_field_challenger.specs.Rules.{after_fill, with_scalar, sample_of};
-ghost use Rattle.multi_field_challenger.specs.Rules.{final_rate};
+ghost use Rattle.challenger_traits.specs.Meaning.{Does};
+ghost use Rattle.code_bits.specs.CodeBits.{code_bits};
+ghost use Rattle.packing.specs.Powers.{limbs, digits};
+ghost use Rattle.multi_field_challenger.specs.Rules.{after_flush_if_pending, after_fill};
+ghost use Rattle.multi_field_challenger.specs.Rules.{with_scalar, sample_of, final_rate};
 ghost use Rattle.multi_field_challenger.specs.Holds.{held_value as held_in, make as make_of};
 ghost use Rattle.multi_field_challenger.specs.Holds.{make_meaning, first_no, IsFresh};
-ghost use Rattle.multi_field_challenger.specs.Calls.{rule as rule_of};
 
 use crate::MultiField32Challenger;
 use buffer::Buffer;
-use domain::{Domain, all_codes};
-use multi_field_blocks::{absorb_words, ensure_outputs, flush, split_all};
+use code_bits::code_bits;
+use domain::Domain;
+use multi_field_blocks::{ensure_outputs, flush, split_all};
 use packing::RadixPacking;
 use permutation::CryptographicPermutation;
 use refusal::Refusal;
@@ -32,20 +31,20 @@ impl<
 > MultiField32Challenger<F, D, P, SAMPLED, ORDER> {
     /// A fresh challenger; refused by the first question of its making that is failed.
     pub fn new(width: usize, rate: usize, permutation: P) -> Result<Self, Refusal>
-        ensures { MatchResult result (IsFresh width rate permutation)
-            (λ e. first_no SAMPLED ORDER width rate ≡ Some e) }
+        ensures { MadeUnless (first_no SAMPLED ORDER width rate) (IsFresh width rate permutation)
+            result }
     {
         let sponge = Sponge::new(width, rate, permutation)?;
         if SAMPLED > GREATEST_SAMPLED_ORDER {
             return Err(Refusal::SampledOrder);
         }
         if SAMPLED >= ORDER {
-            return Err(Refusal::Orders(SAMPLED, ORDER));
+            return Err(Refusal::FieldOrderNotIncreasing(SAMPLED, ORDER));
         }
         let packing = RadixPacking::new();
         let batch = packing.limbs() * rate;
         if batch > LONGEST_BATCH {
-            return Err(Refusal::Batch(batch as u64, LONGEST_BATCH as u64));
+            return Err(Refusal::AbsorbLengthTagOverflow(batch as u64, LONGEST_BATCH as u64));
         }
         Ok(MultiField32Challenger {
             sampled: PhantomData,
@@ -88,7 +87,7 @@ impl<
 
     /// Flushes what is pending, if there is some.
     #[tactic(auto, unfolding(crate::specs::Rules::after_flush_if_pending, crate::specs::Rules::after_flush))]
-    fn flush_if_pending(&mut self)
+    pub(crate) fn flush_if_pending(&mut self)
         ensures state { held_in self.new ≡ after_flush_if_pending SAMPLED (make_meaning self.old)
             (held_in self.old) }
         ensures make { make_of self.new ≡ make_of self.old }
@@ -101,22 +100,6 @@ impl<
         self.squeeze.clear();
     }
 
-    /// Observes a digest: words of the sponge's domain.
-    #[tactic(auto, unfolding(crate::specs::Rules::after_digest, crate::specs::Rules::after_flush_if_pending, crate::specs::Rules::after_flush))]
-    pub fn observe_digest(&mut self, words: &[u64]) -> Result<(), Refusal>
-        ensures does { Does make_of held_in self.old self.new result
-            (observe_of (after_observe_digest SAMPLED (make_meaning self.old) (held_in self.old)
-            words.now) (held_in self.old)) }
-    {
-        if !all_codes::<ORDER>(words) {
-            return Err(Refusal::NotCode);
-        }
-        self.drop_lists();
-        self.flush_if_pending();
-        absorb_words(&mut self.sponge, words);
-        Ok(())
-    }
-
     /// Fills the squeeze list: every output is split, after a turn if none is left.
     #[tactic(auto, unfolding(crate::specs::Rules::after_fill))]
     fn fill_squeeze_list(&mut self)
@@ -126,11 +109,8 @@ impl<
         ensures some { 0 < length (items self.new.squeeze) }
     {
         ensure_outputs(&mut self.sponge);
-        split_all(
-            &mut self.squeeze,
-            &self.sponge.outputs(),
-            self.packing.digits(),
-        );
+        let digits = self.squeeze_num_f_elms();
+        split_all(&mut self.squeeze, &self.sponge.outputs(), digits);
         self.sponge.drop_outputs();
     }
 
@@ -159,21 +139,25 @@ impl<
         self.squeeze.pop()
     }
 
-    /// Have both the same WIDTH and RATE? Then, over equal arithmetic and permutations of equal image, they are of one make.
-    pub fn same_numbers<
-        G: Domain<SAMPLED>,
-        E: Domain<ORDER>,
-        Q: CryptographicPermutation<E, ORDER>,
-    >(&self, other: &MultiField32Challenger<G, E, Q, SAMPLED, ORDER>) -> bool
-        ensures value { result ≡ ((make_of self.now).width == (make_of other.now).width
-            && (make_of self.now).rate == (make_of other.now).rate) }
-        ensures make { IsTrue result → D.arithmetic ≡ E.arithmetic
-            → (make_meaning self.now).image ≡ (make_meaning other.now).image
-            → OneMake (rule_of SAMPLED (make_meaning self.now))
-            (rule_of SAMPLED (make_meaning other.now)) (fresh_of SAMPLED (make_meaning self.now))
-            (fresh_of SAMPLED (make_meaning other.now)) }
+    /// The radix bits: the least number of bits that hold a scalar.
+    pub fn absorb_radix_bits(&self) -> u64
+        ensures { result ≡ code_bits SAMPLED }
     {
-        self.width() == other.width() && self.rate() == other.rate()
+        code_bits(SAMPLED)
+    }
+
+    /// The limbs: how many scalars go into a word.
+    pub fn absorb_num_f_elms(&self) -> usize
+        ensures { result ≡ limbs SAMPLED ORDER }
+    {
+        self.packing.limbs()
+    }
+
+    /// k: how many scalars come out of a word.
+    pub fn squeeze_num_f_elms(&self) -> usize
+        ensures { result ≡ digits SAMPLED ORDER }
+    {
+        self.packing.digits()
     }
 
     /// WIDTH.

@@ -1,5 +1,8 @@
 // Checking and grinding.
+ghost use Rattle.challenger_traits.specs.ObservingProofs.{code_taken};
+ghost use Rattle.sponge.specs.SpongeHeld.{meaning_of_make};
 ghost use Rattle.multi_field_grind.specs.Scalars.{drawn_scalar_with};
+ghost use Rattle.multi_field_challenger.specs.Rules.{after_code};
 
 use crate::MultiField32Challenger;
 use challenger_traits::{CanStartCheck, GrindingChallenger, check_by_parts};
@@ -19,6 +22,9 @@ impl<
     ghost check_start = { λ m h. h };
 
     fn start_check(&mut self) {}
+
+    ghost takes_code = { λ m h w _ lt. code_taken SAMPLED
+        (after_code SAMPLED (meaning_of_make D.arithmetic P.image m)) h w lt };
 }
 
 impl<

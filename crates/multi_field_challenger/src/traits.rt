@@ -1,19 +1,29 @@
-// What is held, observing, and drawing bits.
+// What is held, observing, sampling, and the digest at the end.
 ghost use Rattle.std.specs.Prelude.{◌≡◌, []};
 ghost use Rattle.buffer.specs.Items.{items};
+ghost use Rattle.challenger_traits.specs.Meaning.{never_refused};
 ghost use Rattle.sponge.specs.SpongeHeld.{meaning_of_make};
-ghost use Rattle.multi_field_challenger.specs.Rules.{multi_held, fresh_value as fresh_of};
+ghost use Rattle.multi_field_challenger.specs.Rules.{multi_held};
 ghost use Rattle.multi_field_challenger.specs.Rules.{after_code as after_code_of};
-ghost use Rattle.multi_field_challenger.specs.Rules.{after_observe as after_observe_of, sample_of};
+ghost use Rattle.multi_field_challenger.specs.Rules.{after_observe as after_observe_of};
+ghost use Rattle.multi_field_challenger.specs.Rules.{after_observe_digest as after_words};
+ghost use Rattle.multi_field_challenger.specs.Rules.{sample_of as draw_of_held, final_rate};
 ghost use Rattle.multi_field_challenger.specs.Rules.{drawing as drawing_of};
 ghost use Rattle.multi_field_challenger.specs.Holds.{held_value as held_in, make as make_of};
+ghost use Rattle.multi_field_challenger.specs.Holds.{can_be_held as can_be_held_in};
+ghost use Rattle.multi_field_challenger.specs.HeldProofs.{in_memory};
 
 use crate::{MultiField32Challenger, MultiHeld};
-use challenger_traits::{CanObserve, CanObserveCode, CanSampleBits, Holding, observe_codes};
-use domain::Domain;
-use multi_field_blocks::flush;
+use buffer::Buffer;
+use challenger_traits::{
+    CanFinalizeDigest, CanObserve, CanObserveCode, CanObserveDigest, CanSample, CanSampleBits,
+    FieldChallenger, Holding, observe_codes,
+};
+use domain::{Domain, all_codes};
+use multi_field_blocks::{absorb_words, flush};
 use permutation::CryptographicPermutation;
 use refusal::Refusal;
+use refusal::limits::WIDEST_ROW;
 use sampling::{CanDraw, draw_bits};
 use sponge::Parameters;
 
@@ -32,7 +42,9 @@ impl<
 
     ghost held_value = { held_in };
 
-    ghost fresh_value = { λ m. fresh_of SAMPLED (meaning_of_make D.arithmetic P.image m) };
+    ghost can_be_held = { λ m. can_be_held_in SAMPLED (meaning_of_make D.arithmetic P.image m) };
+
+    ghost holds = { in_memory };
 }
 
 impl<
@@ -60,12 +72,52 @@ impl<
     P: CryptographicPermutation<D, ORDER>,
     const SAMPLED: u64,
     const ORDER: u64,
-> CanObserve for MultiField32Challenger<F, D, P, SAMPLED, ORDER> {
+> CanObserve<u64> for MultiField32Challenger<F, D, P, SAMPLED, ORDER> {
     ghost after_observe = { λ m. after_observe_of SAMPLED
         (meaning_of_make D.arithmetic P.image m) };
 
     fn observe(&mut self, codes: &[u64]) -> Result<(), Refusal> {
         observe_codes(self, codes)
+    }
+}
+
+impl<
+    F: Domain<SAMPLED>,
+    D: Domain<ORDER>,
+    P: CryptographicPermutation<D, ORDER>,
+    const SAMPLED: u64,
+    const ORDER: u64,
+> CanObserveDigest<u64> for MultiField32Challenger<F, D, P, SAMPLED, ORDER> {
+    ghost after_observe_digest = { λ m. after_words SAMPLED
+        (meaning_of_make D.arithmetic P.image m) };
+
+    // A digest is words of the sponge's domain.
+    #[tactic(auto, unfolding(crate::specs::Rules::after_digest, crate::specs::Rules::after_flush_if_pending, crate::specs::Rules::after_flush))]
+    fn observe_digest(&mut self, digest: &[u64]) -> Result<(), Refusal> {
+        if !all_codes::<ORDER>(digest) {
+            return Err(Refusal::NotCode);
+        }
+        self.drop_lists();
+        self.flush_if_pending();
+        absorb_words(&mut self.sponge, digest);
+        Ok(())
+    }
+}
+
+impl<
+    F: Domain<SAMPLED>,
+    D: Domain<ORDER>,
+    P: CryptographicPermutation<D, ORDER>,
+    const SAMPLED: u64,
+    const ORDER: u64,
+> CanSample<u64> for MultiField32Challenger<F, D, P, SAMPLED, ORDER> {
+    type Given = ();
+
+    ghost sample_of = { λ m h _. never_refused
+        (draw_of_held SAMPLED (meaning_of_make D.arithmetic P.image m) h) };
+
+    fn sample(&mut self, _: ()) -> Result<u64, Refusal> {
+        Ok(self.draw())
     }
 }
 
@@ -94,10 +146,36 @@ impl<
     const SAMPLED: u64,
     const ORDER: u64,
 > CanDraw for MultiField32Challenger<F, D, P, SAMPLED, ORDER> {
-    ghost draw_of = { λ m. sample_of SAMPLED (meaning_of_make D.arithmetic P.image m) };
+    ghost draw_of = { λ m. draw_of_held SAMPLED (meaning_of_make D.arithmetic P.image m) };
 
     fn draw(&mut self) -> u64 {
         self.sample()
+    }
+}
+
+impl<
+    F: Domain<SAMPLED>,
+    D: Domain<ORDER>,
+    P: CryptographicPermutation<D, ORDER>,
+    const SAMPLED: u64,
+    const ORDER: u64,
+> FieldChallenger for MultiField32Challenger<F, D, P, SAMPLED, ORDER> {}
+
+impl<
+    F: Domain<SAMPLED>,
+    D: Domain<ORDER>,
+    P: CryptographicPermutation<D, ORDER> + Drop,
+    const SAMPLED: u64,
+    const ORDER: u64,
+> CanFinalizeDigest for MultiField32Challenger<F, D, P, SAMPLED, ORDER> {
+    type Digest = Buffer<ORDER, WIDEST_ROW>;
+
+    ghost digest_numbers = { items };
+
+    ghost digest_of = { λ m. final_rate SAMPLED (meaning_of_make D.arithmetic P.image m) };
+
+    fn finalize(self) -> Buffer<ORDER, WIDEST_ROW> {
+        self.finalize()
     }
 }
 

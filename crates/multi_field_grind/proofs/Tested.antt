@@ -10,7 +10,8 @@ use Rattle.buffer.proofs.Facts.{codes-append}
 use Rattle.sponge.specs.declared.Sponge.{Sponge}
 use Rattle.sponge.specs.Sponge.{block_turn, last_output}
 use Rattle.sponge.specs.SpongeHeld.{held_value, make_meaning}
-use Rattle.sponge.proofs.Absorbing.{Words}
+use Rattle.sponge.specs.AbsorbingProofs.{Words}
+use Rattle.sponge.proofs.Turning.{block-full}
 use Rattle.code_bits.specs.CodeBits.{code_bits}
 use Rattle.packing.specs.declared.RadixPacking.{RadixPacking}
 use Rattle.packing.specs.Powers.{limbs, digits}
@@ -19,7 +20,6 @@ use Rattle.packing.specs.PackingProofs.{limbs-some, packed_words-codes}
 use Rattle.packing.proofs.Facts.{words-few}
 use Rattle.multi_field_blocks.proofs.Lists.{digits-some}
 use Rattle.prepared_grind.specs.Tests.{with_last}
-use Rattle.prepared_grind.proofs.Written.{block-full}
 use Rattle.multi_field_grind.specs.Scalars.{last_scalar}
 use Rattle.multi_field_grind.proofs.Digits.{last_spread}
 use Rattle.multi_field_grind.proofs.Packs.{packed_words-some, last_word, last_set}
@@ -52,7 +52,7 @@ module _ {D P : Type 0} {sampled order : ℕ} {d : DomainGhosts D order} {p : Pe
   }
 
   pub full : (w : ℕ) → w < sampled → 1 ≤ length (block_turn (make_meaning s) (held_value s).row (more w) (length (xs ++ (w ∷ [])))).outputs
-  full w lt = omega (arith, s.some, block-full s (more w) (length (xs ++ (w ∷ []))) (words w lt) (omega (arith, room, batch, more-length w)))
+  full w lt = omega (arith, s.some, block-full s (more w) (length (xs ++ (w ∷ []))) (words w lt) (omega (arith, room, batch, more-length w, d.arithmetic.low)))
 
   -- the word that takes the witness
   module _ (rest weight : ℕ) (r : rest ≡ last_output (more 0)) (e : weight ≡ 2 ^ (code_bits sampled * (length xs % m))) where

@@ -4,27 +4,25 @@ use Rattle.refusal.specs.declared.Refusal.{Refusal}
 use Rattle.domain.specs.Arithmetic.{Arithmetic}
 use Rattle.domain.specs.Modular.{bytes, baby_bear, koala_bear, goldilocks}
 use Rattle.sponge.specs.Sponge.{SpongeMake}
-use Rattle.hasher.specs.Hashing.{IsHashFunction}
-use Rattle.sha256.specs.Sha256.{sha256}
-use Rattle.sha256.specs.Sha256Proofs.{«sha256_hashing»}
-use Rattle.sha3.specs.Sha3.{«sha3_256»}
-use Rattle.sha3.specs.Sha3Proofs.{«sha3_hashing»}
+use Rattle.hashers.specs.Choice.{digest_of, hashing_of}
 use Rattle.duplex_challenger.specs.declared.held.DuplexHeld.{DuplexHeld}
 use Rattle.duplex_challenger.specs.Rules.{fresh_value as duplex_fresh}
 use Rattle.duplex_challenger.specs.Bytes.{byte_transcript}
 use Rattle.multi_field_challenger.specs.declared.held.MultiHeld.{MultiHeld}
 use Rattle.multi_field_challenger.specs.Rules.{fresh_value as multi_fresh}
 use Rattle.hash_state.specs.declared.held.HashHeld.{HashHeld}
-use Rattle.hash_state.specs.Rules.{fresh_value as hash_fresh}
+use Rattle.hash_state.specs.Rules.{initial_no, fresh_value as hash_fresh}
 use Rattle.hash_challenger.specs.Meaning.{hash_transcript}
 use Rattle.script.specs.declared.DomainName.{DomainName}
 use Rattle.script.specs.declared.DomainName.TheVariants.{Bytes, BabyBear, KoalaBear, Goldilocks}
 use Rattle.script.specs.declared.HasherName.{HasherName}
-use Rattle.script.specs.declared.HasherName.TheVariants.{Sha256, Sha3_256}
 use Rattle.script.specs.declared.SpongeParameters.{SpongeParameters}
 use Rattle.script.specs.Grammar.{Said, to_make_duplex, to_make_multi, to_make_hash, to_make_serial_duplex, to_make_serial_hash, said_by}
 use Rattle.played.specs.Voices.{Voice, searching, no_search, duplex_voice, multi_voice, hash_voice, serial_voice}
-use Rattle.played.specs.Makes.{asked_sponge, duplex_no, multi_no, hash_no, serial_no}
+use Rattle.played.specs.Hashers.{named_hasher}
+use Rattle.agreement.specs.Ends.{or_above}
+use Rattle.serializing_challenger.specs.Rules.{order_no}
+use Rattle.played.specs.Makes.{asked_sponge, duplex_no, multi_no}
 use Rattle.rehearsal.specs.declared.lines.Mark.TheVariants.{Make}
 use Rattle.rehearsal.specs.Lines.{At, PartText, marks}
 use Rattle.rehearsal.specs.Tables.{table, refused_table, idle_table}
@@ -107,22 +105,17 @@ multi_made_over sampled d asked =
 abbrev pub multi_made : DomainName → DomainName → SpongeParameters → Result (Made MultiHeld) Refusal
 multi_made f = multi_made_over (order_of f)
 
--- over a hash function with its law: the hash challenger, and the serializing one over it
-unfoldable pub hash_made_over : {n : ℕ} (digest : List ℕ → List ℕ) → IsHashFunction n digest → List ℕ → Result (Made HashHeld) Refusal
-hash_made_over digest hashing initial = unless (hash_no initial) (made_as (hash_voice digest hashing) (hash_fresh initial))
+-- over the named hash function: the hash challenger, and the serializing one over it
+unfoldable pub hash_made : HasherName × List ℕ → Result (Made HashHeld) Refusal
+hash_made k =
+    let h = named_hasher k.0 in
+    unless (initial_no k.1) (made_as (hash_voice (digest_of h) (hashing_of h)) (hash_fresh k.1))
 
-unfoldable pub serial_made_over : {n : ℕ} (digest : List ℕ → List ℕ) → IsHashFunction n digest → ℕ → List ℕ → Result (Made HashHeld) Refusal
-serial_made_over digest hashing order initial =
-    unless (serial_no order (hash_no initial))
-    (made_as (serial_voice order (hash_transcript digest hashing) (hash_voice digest hashing)) (hash_fresh initial))
-
-abbrev pub hash_made : HasherName × List ℕ → Result (Made HashHeld) Refusal
-hash_made (Sha256, initial) = hash_made_over sha256 «sha256_hashing» initial
-hash_made (Sha3_256, initial) = hash_made_over «sha3_256» «sha3_hashing» initial
-
-abbrev pub serial_hash_made_over : ℕ → HasherName × List ℕ → Result (Made HashHeld) Refusal
-serial_hash_made_over order (Sha256, initial) = serial_made_over sha256 «sha256_hashing» order initial
-serial_hash_made_over order (Sha3_256, initial) = serial_made_over «sha3_256» «sha3_hashing» order initial
+unfoldable pub serial_hash_made_over : ℕ → HasherName × List ℕ → Result (Made HashHeld) Refusal
+serial_hash_made_over order k =
+    let h = named_hasher k.0 in
+    unless (or_above (initial_no k.1) (order_no order))
+    (made_as (serial_voice order (hash_transcript (digest_of h) (hashing_of h)) (hash_voice (digest_of h) (hashing_of h))) (hash_fresh k.1))
 
 abbrev pub serial_hash_made : DomainName → HasherName × List ℕ → Result (Made HashHeld) Refusal
 serial_hash_made f = serial_hash_made_over (order_of f)
@@ -130,7 +123,7 @@ serial_hash_made f = serial_hash_made_over (order_of f)
 unfoldable pub serial_duplex_made_over : ℕ → SpongeParameters → Result (Made DuplexHeld) Refusal
 serial_duplex_made_over order asked =
     let k = asked_sponge bytes asked in
-    unless (serial_no order (duplex_no asked)) (made_as (serial_voice order (byte_transcript k) (duplex_voice (found_in Bytes k) k)) (duplex_fresh k))
+    unless (or_above (duplex_no asked) (order_no order)) (made_as (serial_voice order (byte_transcript k) (duplex_voice (found_in Bytes k) k)) (duplex_fresh k))
 
 abbrev pub serial_duplex_made : DomainName → SpongeParameters → Result (Made DuplexHeld) Refusal
 serial_duplex_made f = serial_duplex_made_over (order_of f)

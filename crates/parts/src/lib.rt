@@ -4,6 +4,7 @@
 ghost use Rattle.std.specs.Prelude.{◌≡◌, ℕ, List, ◌++◌, IfOk};
 ghost use Rattle.script.specs.Meaning.{hash_parameters};
 ghost use Rattle.script.specs.Grammar.{said_by};
+ghost use Rattle.agreement.specs.Ends.{AreAlike};
 ghost use Rattle.played.specs.Voices.{voice};
 ghost use Rattle.rehearsal.specs.Lines.{lines_of, part_of};
 ghost use Rattle.parts.specs.Scripts.{Way as WayT, made_as, told, begun_part, refused_part};
@@ -12,16 +13,12 @@ ghost use Rattle.parts.specs.Scripts.{multi_made, hash_made, serial_duplex_made_
 ghost use Rattle.parts.specs.Scripts.{serial_duplex_made, serial_hash_made_over, serial_hash_made};
 ghost use Rattle.parts.specs.Scripts.{read_part, script as script_of};
 
+use agreement::Ends;
 use domain::{BabyBear, Bytes, Domain, Goldilocks, KoalaBear};
-use played::{
-    Played, make_duplex, make_hash, make_multi, make_serial_duplex, make_serial_sha3,
-    make_serial_sha256,
-};
+use played::{Played, make_duplex, make_hash, make_multi, make_serial_duplex, make_serial_hash};
 use refusal::Refusal;
 use rehearsal::lines::{Mark, Numbered, Part, split_before};
-use script::{DomainName, Fault, HashParameters, HasherName, Line, SpongeParameters, read_line};
-use sha3::Sha3_256;
-use sha256::Sha256;
+use script::{DomainName, Fault, HashParameters, Line, SpongeParameters, read_line};
 use std::alloc::{AllocError, Global};
 
 mod tables;
@@ -34,12 +31,13 @@ pub trait Playing {
     // What was written.
     ghost text: { Self → List ℕ };
 
-    /// Goes on with the challenger that a part made.
-    fn begin<C: Played + Copy>(&mut self, fresh: C, part: &Part<'_>) -> Result<(), AllocError>
+    /// Goes on with the challengers that a part made, both ends alike.
+    fn begin<C: Played + Copy>(&mut self, ends: Ends<C>, part: &Part<'_>) -> Result<(), AllocError>
+        requires alike { AreAlike C.make C.held_value ends }
         ensures { IfOk result (λ _. text self.new
             ≡ text self.old ++ begun_part way
-            (made_as (voice C.rule C.shown C.ending C.speaks C.found (C.make fresh))
-            (C.held_value fresh)) (part_of part.now)) };
+            (made_as (voice C.rule C.shown C.ending C.speaks C.found (C.make ends.prover))
+            (C.held_value ends.prover)) (part_of part.now)) };
 
     /// Goes on after a make that was refused.
     fn refuse(&mut self, refusal: &Refusal, part: &Part<'_>) -> Result<(), AllocError>
@@ -52,19 +50,20 @@ pub trait Playing {
             ≡ text self.old ++ idle_part way (part_of part.now)) };
 }
 
-/// Goes on with a challenger, or after its refusal.
+/// Goes on with both ends, or after their refusal.
 fn begin_or_refuse<C: Played + Copy, P: Playing>(
-    made: Result<C, Refusal>,
+    made: Result<Ends<C>, Refusal>,
     part: &Part<'_>,
     player: &mut P,
 ) -> Result<(), AllocError>
+    requires alike { IfOk made (AreAlike C.make C.held_value) }
     ensures { IfOk result (λ _. P.text player.new
         ≡ P.text player.old ++ made_part P.way
-        (told (λ c. voice C.rule C.shown C.ending C.speaks C.found (C.make c)) C.held_value made)
-        (part_of part.now)) }
+        (told (λ e. voice C.rule C.shown C.ending C.speaks C.found (C.make e.prover))
+        (λ e. C.held_value e.prover) made) (part_of part.now)) }
 {
     match made {
-        Ok(fresh) => player.begin(fresh, part),
+        Ok(ends) => player.begin(ends, part),
         Err(refusal) => player.refuse(&refusal, part),
     }
 }
@@ -171,10 +170,7 @@ fn begin_hash<P: Playing>(
         (part_of part.now)) }
 {
     let initial = asked.bytes.as_slice();
-    match asked.hasher {
-        HasherName::Sha256 => begin_or_refuse(make_hash(initial, Sha256), part, player),
-        HasherName::Sha3_256 => begin_or_refuse(make_hash(initial, Sha3_256), part, player),
-    }
+    begin_or_refuse(make_hash(asked.hasher, initial), part, player)
 }
 
 /// Makes a serializing challenger in a sampled domain over a duplex challenger.
@@ -226,18 +222,11 @@ fn begin_serial_hash_in<D: Domain<ORDER> + Copy, P: Playing, const ORDER: u64>(
         (serial_hash_made_over ORDER (hash_parameters asked.now)) (part_of part.now)) }
 {
     let initial = asked.bytes.as_slice();
-    match asked.hasher {
-        HasherName::Sha256 => begin_or_refuse(
-            make_serial_sha256::<D, ORDER>(initial),
-            part,
-            player,
-        ),
-        HasherName::Sha3_256 => begin_or_refuse(
-            make_serial_sha3::<D, ORDER>(initial),
-            part,
-            player,
-        ),
-    }
+    begin_or_refuse(
+        make_serial_hash::<D, ORDER>(asked.hasher, initial),
+        part,
+        player,
+    )
 }
 
 /// Makes a serializing challenger over a hash challenger.

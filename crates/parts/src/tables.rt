@@ -3,6 +3,7 @@ ghost use Rattle.std.specs.Prelude.{string_bytes};
 ghost use Rattle.parts.specs.Scripts.{tables};
 
 use crate::Playing;
+use agreement::Ends;
 use played::Played;
 use refusal::Refusal;
 use rehearsal::Table;
@@ -15,8 +16,12 @@ impl Playing for Table {
     ghost text = { λ t. string_bytes t.text };
 
     #[tactic(auto, unfolding(crate::specs::Scripts::begun_part))]
-    fn begin<C: Played + Copy>(&mut self, fresh: C, part: &Part<'_>) -> Result<(), AllocError> {
-        self.rehearse(fresh, part)
+    fn begin<C: Played + Copy>(
+        &mut self,
+        ends: Ends<C>,
+        part: &Part<'_>,
+    ) -> Result<(), AllocError> {
+        self.rehearse(ends, part)
     }
 
     #[tactic(auto, unfolding(crate::specs::Scripts::refused_part))]

@@ -1,11 +1,17 @@
 -- What a ladder does to a row.
-use Rattle.std.specs.Prelude.{ℕ, zero, suc, ◌+◌, ◌%◌, Bool, ◌&&◌, List, length, nat_le, slice_index, slice_set}
+use Rattle.std.specs.Prelude.{ℕ, zero, suc, ◌+◌, ◌%◌, Bool, ◌&&◌, List, length, Some, None, Option, nat_le, slice_index, slice_set, if◌then◌else◌}
+use Rattle.refusal.specs.declared.Refusal.{Refusal}
+use Rattle.refusal.specs.declared.Refusal.TheVariants.{Rounds}
 use Rattle.domain.specs.Arithmetic.{Arithmetic}
 use Rattle.refusal.specs.declared.limits.TheConstants.{MOST_ROUNDS}
 
 -- is the number of rounds at least 1, and at most the most?
 abbrev pub is_round_count : ℕ → Bool
 is_round_count rounds = nat_le 1 rounds && nat_le rounds MOST_ROUNDS
+
+-- the question of making a ladder
+abbrev pub rounds_no : ℕ → Option Refusal
+rounds_no rounds = if is_round_count rounds then None else Some Rounds
 
 -- step i of round r: the cell after cell i gains stir (cell i) + (r + i + 1); after the last cell comes the first
 unfoldable pub ladder_step : {order : ℕ} → Arithmetic order → ℕ → ℕ → List ℕ → List ℕ

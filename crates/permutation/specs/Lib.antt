@@ -1,6 +1,9 @@
+pub use Rattle.refusal.specs.Made
 pub mod Rows
 pub mod RowsProofs
 pub mod Ladder
 pub mod AddCancelProofs
 pub mod LadderProofs
 pub mod MirrorProofs
+pub mod SameImages
+pub mod Choice

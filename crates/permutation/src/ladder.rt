@@ -1,10 +1,9 @@
 // Ladder.
-ghost use Rattle.std.specs.Prelude.{◌≡◌, ℕ, ◌+◌, ◌%◌, ◌<◌, ◌≤◌, length, MatchResult, IsTrue};
-ghost use Rattle.std.specs.Prelude.{IsFalse};
+ghost use Rattle.std.specs.Prelude.{◌≡◌, ℕ, ◌+◌, ◌%◌, ◌<◌, ◌≤◌, length};
 ghost use Rattle.refusal.specs.declared.limits.TheConstants.{MOST_ROUNDS};
-ghost use Rattle.refusal.specs.declared.Refusal.TheVariants.{Rounds};
+ghost use Rattle.refusal.specs.Made.{MadeUnless};
 ghost use Rattle.permutation.specs.Rows.{IsRow};
-ghost use Rattle.permutation.specs.Ladder.{is_round_count, ladder_step, ladder_steps};
+ghost use Rattle.permutation.specs.Ladder.{rounds_no, ladder_step, ladder_steps};
 ghost use Rattle.permutation.specs.Ladder.{ladder_rounds};
 ghost use Rattle.permutation.specs.LadderProofs.{ladder_lawful};
 
@@ -24,8 +23,7 @@ pub struct Ladder {
 impl Ladder {
     /// A ladder of that many rounds; refused outside 1 to `MOST_ROUNDS`.
     pub fn new(rounds: u64) -> Result<Ladder, Refusal>
-        ensures { MatchResult result (λ l. IsTrue (is_round_count rounds) × (l.rounds ≡ rounds))
-            (λ e. IsFalse (is_round_count rounds) × (e ≡ Rounds)) }
+        ensures { MadeUnless (rounds_no rounds) (λ l. l.rounds ≡ rounds) result }
     {
         if rounds < 1 || rounds > MOST_ROUNDS {
             return Err(Refusal::Rounds);

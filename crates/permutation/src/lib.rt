@@ -6,9 +6,11 @@ ghost use Rattle.permutation.specs.Rows.{IsRow, IsLawful};
 
 use domain::Domain;
 
+mod choice;
 mod ladder;
 mod mirror;
 
+pub use choice::Permutation;
 pub use ladder::Ladder;
 pub use mirror::Mirror;
 

@@ -2,11 +2,17 @@ pub use Rattle.byte_transcript.specs.Transcript
 pub use Rattle.domain.specs.Arithmetic
 pub use Rattle.domain.specs.Modular
 pub use Rattle.duplex_challenger.specs.Bytes
+pub use Rattle.agreement.specs.Ends
+pub use Rattle.hash_state.specs.Rules
+pub use Rattle.permutation.specs.Choice
+pub use Rattle.refusal.specs.Made
+pub use Rattle.runs.specs.Lent
+pub use Rattle.serializing_challenger.specs.Rules as SerializingRules
 pub use Rattle.sponge.specs.Sponge
 pub use Rattle.sponge.specs.SpongeHeld
 pub mod Permutations
+pub mod Hashers
 pub mod Requests
-pub mod PlainProofs
 pub mod Kinds
 pub mod Spoken
 pub mod Shown

@@ -2,6 +2,7 @@
 use Rattle.std.specs.Prelude.{ℕ, Bool, true, false, List, Some, None, Option, Ok, Err, Result, if◌then◌else◌}
 use Rattle.std.specs.Option.{option_map}
 use denote.Ref.{Bor}
+use Rattle.runs.specs.Lent.{lent, plain}
 use Rattle.domain.specs.Codes.{all_codes}
 use Rattle.runs.specs.declared.call.Call.{Call}
 use Rattle.runs.specs.declared.call.Call.TheVariants.{Observe, ObserveDigest, ObserveBytes, ObserveDigestBytes, ObserveDigestWords, Sample, SampleWithin, SampleBits, UniformBits, CheckWitness, Grind}
@@ -21,24 +22,7 @@ bytes_said (to_observe xs) = as_bytes xs
 bytes_said (to_digest xs) = as_bytes xs
 bytes_said _ = None
 
--- a list, lent from nowhere
-abbrev pub lent : List ℕ → Bor (List ℕ)
-lent xs = record { ref_ptr = (0, 0); now = xs }
-
--- the call with its list so lent: a challenger reads what is lent, wherever it lies
-abbrev pub plain : Call → Call
-plain (Observe xs) = Observe (lent xs.now)
-plain (ObserveDigest xs) = ObserveDigest (lent xs.now)
-plain (ObserveBytes xs) = ObserveBytes (lent xs.now)
-plain (ObserveDigestBytes xs) = ObserveDigestBytes (lent xs.now)
-plain (ObserveDigestWords xs) = ObserveDigestWords (lent xs.now)
-plain Sample = Sample
-plain (SampleWithin limit) = SampleWithin limit
-plain (SampleBits b) = SampleBits b
-plain (UniformBits b l) = UniformBits b l
-plain (CheckWitness b w) = CheckWitness b w
-plain (Grind b n) = Grind b n
-
+-- with its list lent from nowhere
 abbrev pub plainly : Result (Option Call) Unfit → Result (Option Call) Unfit
 plainly (Ok o) = Ok (option_map plain o)
 plainly (Err e) = Err e

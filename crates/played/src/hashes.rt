@@ -1,5 +1,5 @@
 // The hash challenger.
-ghost use Rattle.std.specs.Prelude.{Some};
+ghost use Rattle.std.specs.Prelude.{Some, refl};
 ghost use Rattle.byte_transcript.specs.Transcript.{least_candidate};
 ghost use Rattle.hash_challenger.specs.Meaning.{hash_transcript};
 ghost use Rattle.printing.specs.Spoken.{hex_words};
@@ -16,7 +16,7 @@ use std::alloc::{AllocError, Global};
 impl<H: CryptographicHasher<N> + Copy, const N: usize> Shown for HashChallenger<H, N> {
     ghost shown = { hash_held_words };
 
-    ghost ending = { λ k h. hex_words (H.digest h.input) };
+    ghost ending = { λ k h. hex_words (H.digest k h.input) };
 
     fn held(&self, heap: Global) -> Result<String, AllocError> {
         let input = hex_text(heap, self.input())?;
@@ -33,10 +33,9 @@ impl<H: CryptographicHasher<N> + Copy, const N: usize> Shown for HashChallenger<
 impl<H: CryptographicHasher<N> + Copy, const N: usize> Played for HashChallenger<H, N> {
     ghost speaks = { Bytes };
 
-    ghost found = { λ k h n mask. Some (least_candidate (hash_transcript H.digest H.hashing) h n
-        mask) };
+    ghost found = { λ k h n mask. Some (least_candidate (hash_transcript (H.digest k) (H.hashing k))
+        h n mask) };
 
-    #[tactic(auto, using(crate::specs::PlainProofs::hash_alike))]
     fn dialect(&self) -> Dialect {
         Dialect::Bytes
     }
@@ -44,4 +43,6 @@ impl<H: CryptographicHasher<N> + Copy, const N: usize> Played for HashChallenger
     fn find(&self, candidates: u64, mask: u64) -> Option<Option<u64>> {
         Some(self.find_witness(candidates, mask))
     }
+
+    ghost means_itself = { λ h m. refl };
 }

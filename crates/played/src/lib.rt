@@ -2,9 +2,7 @@
 #![tactic(auto)]
 
 ghost use Rattle.std.specs.Prelude.{◌≡◌, ℕ, List, IfOk, Option, string_bytes};
-ghost use Rattle.runs.specs.declared.call.Call.{Call as CallT};
 ghost use Rattle.played.specs.declared.dialect.Dialect.{Dialect as DialectT};
-ghost use Rattle.played.specs.Requests.{plain};
 
 mod dialect;
 mod hashes;
@@ -17,12 +15,11 @@ mod sponges;
 use challenger_traits::Holding;
 pub use dialect::{Dialect, Unfit};
 pub use making::{
-    ByteDuplex, make_duplex, make_hash, make_multi, make_serial_duplex, make_serial_sha3,
-    make_serial_sha256,
+    NamedHash, make_duplex, make_hash, make_multi, make_serial_duplex, make_serial_hash,
 };
-pub use named::Permutation;
+pub use named::{named_hasher, named_permutation};
 pub use request::Request;
-use runs::CanTakeCalls;
+use runs::{CanTakeCalls, MadeLike};
 use std::alloc::{AllocError, Global};
 
 /// What is printed of a challenger.
@@ -43,21 +40,22 @@ pub trait Shown: Holding {
             ≡ ending (Self.make self.now) (Self.held_value self.now)) };
 }
 
-/// A challenger that a script plays.
-pub trait Played: CanTakeCalls + Shown {
+/// A challenger that a script plays, with a prover's and a verifier's alike.
+pub trait Played: CanTakeCalls + Shown + MadeLike<Self> {
     // What the numbers of its lines are.
     ghost speaks: { DialectT };
 
     // What `find` gives, if it has that call.
     ghost found: { Self.Make → Self.Held → ℕ → ℕ → Option (Option ℕ) };
 
-    /// What the numbers of its lines are. A call means the same wherever the list lies that it lends.
+    /// What the numbers of its lines are.
     fn dialect(&self) -> Dialect
-        ensures value { result ≡ speaks }
-        ensures lent { (h : Self.Held) (c : CallT)
-            → Self.rule (Self.make self.now) h c ≡ Self.rule (Self.make self.now) h (plain c) };
+        ensures { result ≡ speaks };
 
     /// The least candidate, or none; None if it has no such call.
     fn find(&self, candidates: u64, mask: u64) -> Option<Option<u64>>
         ensures { result ≡ found (Self.make self.now) (Self.held_value self.now) candidates mask };
+
+    // A make means the same as itself.
+    ghost means_itself: { (k : Self.Make) → Self.MadeLike.same_meaning k k };
 }

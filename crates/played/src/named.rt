@@ -1,48 +1,33 @@
-// The permutation that a line names.
-ghost use Rattle.std.specs.Prelude.{◌≡◌, ℕ, Some, None, MatchResult};
+// The permutation and the hash function that a line names.
+ghost use Rattle.std.specs.Prelude.{◌≡◌, ℕ};
+ghost use Rattle.refusal.specs.Made.{MadeUnless};
 ghost use Rattle.domain.specs.Arithmetic.{Arithmetic};
-ghost use Rattle.played.specs.Permutations.{image as image_of, lawful as lawful_of, named_no};
-ghost use Rattle.played.specs.Permutations.{named_image};
+ghost use Rattle.permutation.specs.Choice.{image as image_of};
+ghost use Rattle.played.specs.Permutations.{named_no, named_image};
+ghost use Rattle.played.specs.Hashers.{named_hasher};
 
-use domain::Domain;
-use permutation::{CryptographicPermutation, Ladder, Mirror};
+use hashers::Hasher;
+use permutation::{Ladder, Mirror, Permutation};
 use refusal::Refusal;
-use script::PermutationName;
+use script::{HasherName, PermutationName};
 
-/// One of the permutations, chosen while a script is read.
-#[derive(Clone, Copy, PartialEq, Eq, Debug)]
-pub enum Permutation {
-    Mirror(Mirror),
-    Ladder(Ladder),
-}
-
-impl Permutation {
-    /// The permutation of a name; refused if it is a ladder of other than 1 to 16 rounds.
-    pub fn new(name: PermutationName) -> Result<Self, Refusal>
-        ensures { MatchResult result (λ p. (named_no name ≡ None)
-            × ((order : ℕ) (d : Arithmetic order) → image_of d p ≡ named_image d name))
-            (λ e. named_no name ≡ Some e) }
-    {
-        match name {
-            PermutationName::Mirror => Ok(Permutation::Mirror(Mirror)),
-            PermutationName::Ladder(rounds) => Ok(Permutation::Ladder(Ladder::new(rounds)?)),
-        }
+/// The permutation of a name; refused if it is a ladder of other than 1 to `MOST_ROUNDS` rounds.
+pub fn named_permutation(name: PermutationName) -> Result<Permutation, Refusal>
+    ensures { MadeUnless (named_no name) (λ p. (order : ℕ) (d : Arithmetic order)
+        → image_of d p ≡ named_image d name) result }
+{
+    match name {
+        PermutationName::Mirror => Ok(Permutation::Mirror(Mirror)),
+        PermutationName::Ladder(rounds) => Ok(Permutation::Ladder(Ladder::new(rounds)?)),
     }
 }
 
-impl<D: Domain<ORDER>, const ORDER: u64> CryptographicPermutation<D, ORDER> for Permutation {
-    ghost image = { image_of D.arithmetic };
-
-    ghost lawful = { lawful_of D.arithmetic };
-
-    fn permute(&self, row: &mut [u64]) {
-        match self {
-            Permutation::Mirror(mirror) => CryptographicPermutation::<D, ORDER>::permute(
-                mirror, row,
-            ),
-            Permutation::Ladder(ladder) => CryptographicPermutation::<D, ORDER>::permute(
-                ladder, row,
-            ),
-        }
+/// The hash function of a name.
+pub fn named_hasher(name: HasherName) -> Hasher
+    ensures { result ≡ named_hasher name }
+{
+    match name {
+        HasherName::Sha256 => Hasher::Sha256,
+        HasherName::Sha3_256 => Hasher::Sha3_256,
     }
 }

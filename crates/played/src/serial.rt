@@ -1,5 +1,6 @@
 // The serializing challenger: what is printed is its transcript's.
 ghost use Rattle.std.specs.Prelude.{None};
+ghost use Rattle.byte_transcript.specs.SameTranscriptProofs.{same_transcript};
 ghost use Rattle.played.specs.declared.dialect.Dialect.TheVariants.{Serializing};
 
 use crate::{Dialect, Played, Shown};
@@ -29,7 +30,6 @@ impl<D: Domain<ORDER> + Copy, T: ByteGrindingChallenger + Shown + Copy, const OR
 
     ghost found = { λ k h n mask. None };
 
-    #[tactic(auto, using(crate::specs::PlainProofs::serial_alike))]
     fn dialect(&self) -> Dialect {
         Dialect::Serializing
     }
@@ -37,4 +37,6 @@ impl<D: Domain<ORDER> + Copy, T: ByteGrindingChallenger + Shown + Copy, const OR
     fn find(&self, _candidates: u64, _mask: u64) -> Option<Option<u64>> {
         None
     }
+
+    ghost means_itself = { λ k. same_transcript (T.meaning k) };
 }

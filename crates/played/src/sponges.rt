@@ -10,15 +10,16 @@ ghost use Rattle.duplex_challenger.specs.Holds.{make_meaning as duplex_making};
 ghost use Rattle.duplex_challenger.specs.Rules.{final_rate as duplex_finalized};
 ghost use Rattle.multi_field_challenger.specs.Rules.{final_rate as multi_finalized};
 ghost use Rattle.played.specs.declared.dialect.Dialect.TheVariants.{Codes};
-ghost use Rattle.played.specs.Permutations.{image as image_of};
+ghost use Rattle.permutation.specs.Choice.{image as image_of};
+ghost use Rattle.sponge.specs.SameSponge.{same_sponge};
 ghost use Rattle.played.specs.Shown.{duplex_words, multi_words, codes_words};
 
-use crate::{Dialect, Permutation, Played, Shown};
+use crate::{Dialect, Played, Shown};
 use byte_transcript::ByteGrindingChallenger;
 use domain::{BabyBear, Bytes, Domain, Goldilocks, KoalaBear};
 use duplex_challenger::DuplexChallenger;
 use multi_field_challenger::MultiField32Challenger;
-use permutation::CryptographicPermutation;
+use permutation::{CryptographicPermutation, Permutation};
 use printing::{Held, Listed};
 use std::alloc::{AllocError, Global};
 
@@ -52,7 +53,6 @@ impl Played for DuplexChallenger<Bytes, Permutation, 256> {
         (byte_transcript (meaning_of_make ⟦<Bytes as Domain<256>>⟧.arithmetic
         (image_of ⟦<Bytes as Domain<256>>⟧.arithmetic) m)) h n mask) };
 
-    #[tactic(auto, using(crate::specs::PlainProofs::duplex_alike))]
     fn dialect(&self) -> Dialect {
         Dialect::Codes
     }
@@ -60,6 +60,9 @@ impl Played for DuplexChallenger<Bytes, Permutation, 256> {
     fn find(&self, candidates: u64, mask: u64) -> Option<Option<u64>> {
         Some(self.find_witness(candidates, mask))
     }
+
+    ghost means_itself = { λ m. same_sponge (meaning_of_make ⟦<Bytes as Domain<256>>⟧.arithmetic
+        (image_of ⟦<Bytes as Domain<256>>⟧.arithmetic) m) };
 }
 
 impl Played for DuplexChallenger<BabyBear, Permutation, 2013265921> {
@@ -67,7 +70,6 @@ impl Played for DuplexChallenger<BabyBear, Permutation, 2013265921> {
 
     ghost found = { λ m h n mask. None };
 
-    #[tactic(auto, using(crate::specs::PlainProofs::duplex_alike))]
     fn dialect(&self) -> Dialect {
         Dialect::Codes
     }
@@ -75,6 +77,10 @@ impl Played for DuplexChallenger<BabyBear, Permutation, 2013265921> {
     fn find(&self, _candidates: u64, _mask: u64) -> Option<Option<u64>> {
         None
     }
+
+    ghost means_itself = { λ m. same_sponge (meaning_of_make
+        ⟦<BabyBear as Domain<2013265921>>⟧.arithmetic
+        (image_of ⟦<BabyBear as Domain<2013265921>>⟧.arithmetic) m) };
 }
 
 impl Played for DuplexChallenger<KoalaBear, Permutation, 2130706433> {
@@ -82,7 +88,6 @@ impl Played for DuplexChallenger<KoalaBear, Permutation, 2130706433> {
 
     ghost found = { λ m h n mask. None };
 
-    #[tactic(auto, using(crate::specs::PlainProofs::duplex_alike))]
     fn dialect(&self) -> Dialect {
         Dialect::Codes
     }
@@ -90,6 +95,10 @@ impl Played for DuplexChallenger<KoalaBear, Permutation, 2130706433> {
     fn find(&self, _candidates: u64, _mask: u64) -> Option<Option<u64>> {
         None
     }
+
+    ghost means_itself = { λ m. same_sponge (meaning_of_make
+        ⟦<KoalaBear as Domain<2130706433>>⟧.arithmetic
+        (image_of ⟦<KoalaBear as Domain<2130706433>>⟧.arithmetic) m) };
 }
 
 impl Played for DuplexChallenger<Goldilocks, Permutation, 18446744069414584321> {
@@ -97,7 +106,6 @@ impl Played for DuplexChallenger<Goldilocks, Permutation, 18446744069414584321> 
 
     ghost found = { λ m h n mask. None };
 
-    #[tactic(auto, using(crate::specs::PlainProofs::duplex_alike))]
     fn dialect(&self) -> Dialect {
         Dialect::Codes
     }
@@ -105,6 +113,10 @@ impl Played for DuplexChallenger<Goldilocks, Permutation, 18446744069414584321> 
     fn find(&self, _candidates: u64, _mask: u64) -> Option<Option<u64>> {
         None
     }
+
+    ghost means_itself = { λ m. same_sponge (meaning_of_make
+        ⟦<Goldilocks as Domain<18446744069414584321>>⟧.arithmetic
+        (image_of ⟦<Goldilocks as Domain<18446744069414584321>>⟧.arithmetic) m) };
 }
 
 impl<
@@ -146,7 +158,6 @@ impl<
 
     ghost found = { λ m h n mask. None };
 
-    #[tactic(auto, using(crate::specs::PlainProofs::multi_alike))]
     fn dialect(&self) -> Dialect {
         Dialect::Codes
     }
@@ -154,4 +165,6 @@ impl<
     fn find(&self, _candidates: u64, _mask: u64) -> Option<Option<u64>> {
         None
     }
+
+    ghost means_itself = { λ m. same_sponge (meaning_of_make D.arithmetic P.image m) };
 }

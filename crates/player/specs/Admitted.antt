@@ -4,8 +4,8 @@ use Rattle.std.specs.List.{list_any, slice_split}
 use Rattle.std.specs.Str.{bytes_eq}
 use Rattle.script.specs.Grammar.{said_by}
 use Rattle.rehearsal.specs.Lines.{At}
-use Rattle.player.specs.declared.agreement.Stop.{Stop}
-use Rattle.player.specs.declared.agreement.Stop.TheVariants.{Unreadable, Memory}
+use Rattle.player.specs.declared.side_by_side.Stop.{Stop}
+use Rattle.player.specs.declared.side_by_side.Stop.TheVariants.{Unreadable, Memory}
 
 -- a line that says something
 abbrev pub readable : List ℕ → Bool

@@ -2,8 +2,8 @@
 use Rattle.std.specs.Prelude.{ℕ, List, ◌++◌, Some, Option, codes, decimal}
 use Rattle.std.specs.Option.{option_map}
 use Rattle.script.specs.Spoken.{fault_words}
-use Rattle.player.specs.declared.agreement.Stop.{Stop}
-use Rattle.player.specs.declared.agreement.Stop.TheVariants.{Unreadable, Memory}
+use Rattle.player.specs.declared.side_by_side.Stop.{Stop}
+use Rattle.player.specs.declared.side_by_side.Stop.TheVariants.{Unreadable, Memory}
 
 abbrev pub stop_words : Stop → Option (List ℕ)
 stop_words (Unreadable line fault) = option_map (λ words. codes "line " ++ (decimal line ++ (codes ": " ++ words))) (fault_words fault)

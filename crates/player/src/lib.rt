@@ -1,12 +1,12 @@
 //! Plays scripts: one answer for each line, or the prover's and the verifier's run side by side.
 #![tactic(auto)]
 
-mod agreement;
 mod helpers;
 mod playing;
+mod side_by_side;
 
-pub use agreement::{Stop, agree};
 pub use playing::{Sheet, run};
+pub use side_by_side::{Stop, agree};
 
 #[cfg(test)]
 mod tests {

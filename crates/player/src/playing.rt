@@ -17,8 +17,10 @@ ghost use Rattle.parts.specs.Sheets.{idle, call_answer, kind_answer, line_answer
 ghost use Rattle.parts.specs.Scripts.{answers, script};
 
 use crate::helpers::pair_numbers;
+use agreement::Ends;
+use hasher::CryptographicHasher;
 use parts::{Playing, play_parts};
-use played::{Played, Request, Unfit};
+use played::{Played, Request, Unfit, named_hasher};
 use refusal::Refusal;
 use rehearsal::lines::{Mark, Numbered, Part, split_before, split_lines};
 use script::{DomainName, Fault, HashParameters, HasherName, Line, read_line};
@@ -29,10 +31,7 @@ use std::io;
 fn digest_of(hasher: HasherName, bytes: &[u8]) -> [u8; 32]
     ensures { result ≡ named_digest hasher bytes.now }
 {
-    match hasher {
-        HasherName::Sha256 => sha256::hash(bytes),
-        HasherName::Sha3_256 => sha3::hash(bytes),
-    }
+    named_hasher(hasher).hash(bytes)
 }
 
 /// Is a line of these answers `bad-line`?
@@ -273,8 +272,12 @@ impl Playing for Sheet {
     ghost text = { λ s. string_bytes s.answers };
 
     #[tactic(auto, unfolding(parts::specs::Scripts::begun_part))]
-    fn begin<C: Played + Copy>(&mut self, fresh: C, part: &Part<'_>) -> Result<(), AllocError> {
-        let mut challenger = fresh;
+    fn begin<C: Played + Copy>(
+        &mut self,
+        ends: Ends<C>,
+        part: &Part<'_>,
+    ) -> Result<(), AllocError> {
+        let mut challenger = ends.prover;
         writeln!(self.answers, "ok")?;
         let (before, after) = split_before(Mark::Finalize, part.lines);
         self.play_lines(&mut challenger, before)?;

@@ -6,7 +6,7 @@ use buffer::Buffer;
 use domain::Domain;
 use permutation::CryptographicPermutation;
 use refusal::limits::WIDEST_ROW;
-use sponge::{GREATEST_TAG, Sponge};
+use sponge::Sponge;
 
 /// A row that has a block written in it, of which a turn gives out the first `rate` cells, and the cell of the block's last word.
 #[derive(Clone, Copy)]
@@ -35,7 +35,7 @@ impl<const ORDER: u64> PreparedBlock<ORDER> {
     ) -> Self
         requires some { 0 < length (items words.now) }
         requires room { length (items words.now) ≤ sponge.now.rate }
-        requires tagged { tag ≤ GREATEST_TAG }
+        requires tagged { tag < ORDER }
         ensures { (code : ℕ) → last_output_with (make_meaning sponge.now).image result code
             ≡ last_output (block_turn (make_meaning sponge.now) (held_value sponge.now).row
             (with_last (items words.now) code) tag).outputs }

@@ -14,7 +14,7 @@ pub use block::PreparedBlock;
 pub use search::grind_prepared;
 
 /// Preparing a check, and what it draws for each witness.
-pub trait CanPrepareCheck: CanObserve + CanSampleBits + CanStartCheck {
+pub trait CanPrepareCheck: CanObserve<u64> + CanSampleBits + CanStartCheck {
     type Prepared: Copy;
 
     // What is drawn once the witness is observed.

@@ -1,7 +1,7 @@
 // The search by a prepared check.
-ghost use Rattle.std.specs.Prelude.{◌≡◌, ◌%◌, ◌^◌, ◌<◌, ◌==◌};
-ghost use Rattle.challenger_traits.specs.Meaning.{Does};
-ghost use Rattle.challenger_traits.specs.Grinding.{at_make, grind_of, LeastWitness};
+ghost use Rattle.std.specs.Prelude.{◌≡◌, ◌%◌, ◌^◌, ◌<◌, true, Ok, IfOk, ◌==◌};
+ghost use Rattle.challenger_traits.specs.Meaning.{Does, reply};
+ghost use Rattle.challenger_traits.specs.Grinding.{at_make, check_of, grind_of, LeastWitness};
 
 use crate::CanPrepareCheck;
 use challenger_traits::{bits_fit, check_by_parts};
@@ -19,7 +19,7 @@ fn passes<C: CanPrepareCheck>(c: &C, prepared: &C::Prepared, bits: u64, witness:
 
 // `grind_by_trial` needs nothing prepared, but copies the challenger for each candidate.
 /// The search by a prepared check of the challenger: the check itself is made of the witness alone.
-#[tactic(auto, unfolding(challenger_traits::specs::Grinding::grind_of))]
+#[tactic(auto, unfolding(challenger_traits::specs::Grinding::grind_of, challenger_traits::specs::Grinding::check_of))]
 pub fn grind_prepared<C: CanPrepareCheck + Copy>(
     c: &mut C,
     bits: u64,
@@ -28,6 +28,9 @@ pub fn grind_prepared<C: CanPrepareCheck + Copy>(
     ensures does { Does C.make C.held_value c.old c.new result
         (grind_of (at_make C.after_observe C.drawing C.check_start (C.make c.old))
         (C.held_value c.old) bits budget) }
+    ensures passes { IfOk result (λ ground. check_of
+        (at_make C.after_observe C.drawing C.check_start (C.make c.old)) (C.held_value c.old) bits
+        ground.0 ≡ reply (Ok true) (C.held_value c.new)) }
     ensures least { LeastWitness (at_make C.after_observe C.drawing C.check_start (C.make c.old))
         (C.held_value c.old) bits budget (record { said = result; left = C.held_value c.new }) }
 {

@@ -16,9 +16,9 @@ pub enum Refusal {
     /// Is the sampled order at most 2^32, `GREATEST_SAMPLED_ORDER`?
     SampledOrder,
     /// Is the sampled order below the sponge order? It carries the two orders.
-    Orders(u64, u64),
+    FieldOrderNotIncreasing(u64, u64),
     /// Is the batch length at most `LONGEST_BATCH`? It carries the batch length and that limit.
-    Batch(u64, u64),
+    AbsorbLengthTagOverflow(u64, u64),
     /// Is the number of rounds 1 to `MOST_ROUNDS`?
     Rounds,
     /// Has the initial state at most `LONGEST_INPUT` bytes?
@@ -36,7 +36,7 @@ pub enum Refusal {
     /// Is a candidate below the budget accepted? It carries the trials.
     NoWitness(u64),
     /// Did a draw within the limit fall below its bound? It carries the value drawn last and the bound.
-    NoDraw(u64, u64),
+    ResamplingError(u64, u64),
 }
 
 impl Refusal {
@@ -47,8 +47,8 @@ impl Refusal {
         match *self {
             Refusal::Shape => 10,
             Refusal::SampledOrder => 11,
-            Refusal::Orders(_, _) => 12,
-            Refusal::Batch(_, _) => 13,
+            Refusal::FieldOrderNotIncreasing(_, _) => 12,
+            Refusal::AbsorbLengthTagOverflow(_, _) => 13,
             Refusal::Rounds => 14,
             Refusal::InitialState => 15,
             Refusal::Bits => 20,
@@ -57,7 +57,7 @@ impl Refusal {
             Refusal::NotCode => 23,
             Refusal::Room => 24,
             Refusal::NoWitness(_) => 25,
-            Refusal::NoDraw(_, _) => 26,
+            Refusal::ResamplingError(_, _) => 26,
         }
     }
 
@@ -68,7 +68,9 @@ impl Refusal {
         ensures rest { drop result out.new ≡ drop result out.old }
     {
         match *self {
-            Refusal::Orders(a, b) | Refusal::Batch(a, b) | Refusal::NoDraw(a, b) => {
+            Refusal::FieldOrderNotIncreasing(a, b)
+            | Refusal::AbsorbLengthTagOverflow(a, b)
+            | Refusal::ResamplingError(a, b) => {
                 *out = [a, b];
                 2
             }
@@ -91,10 +93,9 @@ impl fmt::Display for Refusal {
     fn fmt<W: fmt::Write>(&self, f: &mut fmt::Formatter<W>) -> fmt::Result {
         let number = self.number();
         match self {
-            Refusal::Orders(a, b) | Refusal::Batch(a, b) | Refusal::NoDraw(a, b) => write!(
-                f,
-                "no {number} {a} {b}"
-            ),
+            Refusal::FieldOrderNotIncreasing(a, b)
+            | Refusal::AbsorbLengthTagOverflow(a, b)
+            | Refusal::ResamplingError(a, b) => write!(f, "no {number} {a} {b}"),
             Refusal::NoWitness(a) => write!(f, "no {number} {a}"),
             _ => write!(f, "no {number}"),
         }

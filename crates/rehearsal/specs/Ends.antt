@@ -1,7 +1,7 @@
 -- The two ends of a transcript.
 use Rattle.std.specs.Prelude.{◌≡◌, ℕ, Bool, List, ◌++◌, IsTrue}
 use Rattle.challenger_traits.specs.Meaning.{Reply}
-use Rattle.rehearsal.specs.declared.turns.Ends.{Ends}
+use Rattle.agreement.specs.declared.ends.Ends.{Ends}
 
 -- a challenger C, with what making it fixed and what it holds
 module _ {C Make Held : Type 0} (make : C → Make) (held : C → Held) where

@@ -10,10 +10,12 @@ ghost use Rattle.rehearsal.specs.Tables.{head, row, same, ended, again, as_grind
 ghost use Rattle.rehearsal.specs.Tables.{check_words, instead_words, turn_row, absent_kind};
 ghost use Rattle.rehearsal.specs.Tables.{absent_said, absent, call_row, line_row, finish, table};
 ghost use Rattle.rehearsal.specs.Tables.{refused_table, idle_table};
+ghost use Rattle.agreement.specs.Ends.{AreAlike};
 ghost use Rattle.rehearsal.specs.Ends.{Both, PlayedOn};
 
 use crate::lines::{Mark, Numbered, Part, split_before};
-use crate::turns::{Ends, Turn};
+use crate::turns::{Turn, take_turn};
+use agreement::Ends;
 use played::{Played, Request};
 use printing::table::{HEAD, Row};
 use refusal::Refusal;
@@ -127,7 +129,7 @@ impl Table {
     {
         match request.call(ends.prover.dialect()) {
             Ok(Some(call)) => {
-                let turn = ends.turn(&call);
+                let turn = take_turn(ends, &call);
                 self.turn(at, &turn)?;
                 Ok(turn.agrees())
             }
@@ -281,23 +283,21 @@ impl Table {
         Ok(self.held(ends, "before finalize ")? && alike)
     }
 
-    /// Writes the table of a part, both runs made on a copy of its fresh challenger.
+    /// Writes the table of a part, whose ends were made alike.
     pub fn rehearse<C: Played + Copy>(
         &mut self,
-        fresh: C,
+        ends: Ends<C>,
         part: &Part<'_>,
     ) -> Result<(), AllocError>
+        requires alike { AreAlike C.make C.held_value ends }
         ensures { IfOk result (λ _. string_bytes self.new.text
             ≡ string_bytes self.old.text ++ table
-            (voice C.rule C.shown C.ending C.speaks C.found (C.make fresh)) (C.held_value fresh)
-            (part_of part.now)) }
+            (voice C.rule C.shown C.ending C.speaks C.found (C.make ends.prover))
+            (C.held_value ends.prover) (part_of part.now)) }
     {
         self.begin(&part.make, "ok")?;
         let (before, after) = split_before(Mark::Finalize, part.lines);
-        let mut ends = Ends {
-            prover: fresh,
-            verifier: fresh,
-        };
+        let mut ends = ends;
         let calls_alike = self.lines(&mut ends, before)?;
         let end_alike = self.finish(&ends, after)?;
         let told = if calls_alike && end_alike {

@@ -1,5 +1,9 @@
+pub use Rattle.challenger_traits.specs.Grinding
 pub use Rattle.challenger_traits.specs.Meaning
 pub mod Answers
 pub mod Runs
-pub mod RunsProofs
+pub mod Lent
+pub mod LentProofs
+pub mod Interface
+pub mod InterfaceProofs
 pub mod Spoken

@@ -1,5 +1,5 @@
 -- Runs of calls, and how a verifier repeats a prover's.
-use Rattle.std.specs.Prelude.{◌≡◌, ℕ, Bool, true, ◌&&◌, List, [], ◌∷◌, ◌++◌, length, Some, None, Option, ◌==◌}
+use Rattle.std.specs.Prelude.{◌≡◌, ℕ, Bool, true, ◌&&◌, List, [], ◌∷◌, ◌++◌, length, Some, None, Option, ◌==◌, IsTrue}
 use Rattle.challenger_traits.specs.Meaning.{Reply, reply}
 use Rattle.runs.specs.declared.call.Call.{Call}
 use Rattle.runs.specs.declared.call.Call.TheVariants.{CheckWitness, Grind}
@@ -24,6 +24,15 @@ abbrev pub witness : Answer → Option ℕ
 witness (Ground w t) = Some w
 witness _ = None
 
+-- one end of a run: what it held before, how it was answered, what it holds after
+pub record Party (Held : Type 0) : Type 0 where
+  pub before : Held
+  pub answered : List Answer
+  pub after : Held
+
+abbrev pub party : {Held : Type 0} → Held → List Answer → Held → Party Held
+party before answered after = record { before = before; answered = answered; after = after }
+
 module _ {Held : Type 0} (rule : Rule Held) where
   -- a check in a grind's place, by the grind's witness, and what the grind left
   abbrev pub Stands : Held → ℕ → Option ℕ → Held → Type 0
@@ -42,10 +51,15 @@ module _ {Held : Type 0} (rule : Rule Held) where
   value_after h [] = h
   value_after h (c ∷ cs) = value_after (rule h c).left cs
 
-  -- a run: from h, these calls were answered so, and left g
-  pub record Run (h : Held) (cs : List Call) (xs : List Answer) (g : Held) : Type 0 where
-    pub said : xs ≡ answers h cs
-    pub left : g ≡ value_after h cs
+  -- every value that the calls meet can be held
+  abbrev pub CanBeHeldAlong : (Held → Bool) → Held → List Call → Type 0
+  CanBeHeldAlong can_be_held h [] = IsTrue (can_be_held h)
+  CanBeHeldAlong can_be_held h (c ∷ cs) = IsTrue (can_be_held h) × CanBeHeldAlong can_be_held (rule h c).left cs
+
+  -- a run: the party was answered each of these calls by the rule, and was left with what the last one left
+  pub record Run (calls : List Call) (p : Party Held) : Type 0 where
+    pub said : p.answered ≡ answers p.before calls
+    pub left : p.after ≡ value_after p.before calls
 
 -- what the verifier calls in the place of a call, given the prover's answer
 abbrev pub for_grind : ℕ → Option ℕ → List Call
@@ -72,26 +86,14 @@ pub data Repeats : List Call → List Answer → List Call → List Answer → T
   -- a refused grind is left out
   skipped : (b n : ℕ) (a : Answer) {cs ds : List Call} {xs ys : List Answer} → witness a ≡ None → Repeats cs xs ds ys → Repeats (Grind b n ∷ cs) (a ∷ xs) ds ys
 
--- each call means the same by both rules
-abbrev pub SameRules : {Held : Type 0} → Rule Held → Rule Held → Type 0
-SameRules {Held} prover verifier = (h : Held) (c : Call) → prover h c ≡ verifier h c
+-- on what can be held, each call means the same by both rules
+abbrev pub SameRules : {Held : Type 0} → (Held → Bool) → Rule Held → Rule Held → Type 0
+SameRules {Held} can_be_held prover verifier = (h : Held) (c : Call) → IsTrue (can_be_held h) → prover h c ≡ verifier h c
 
--- two challengers of one make: each call means the same to both, and fresh they hold the same
-pub record OneMake {Held : Type 0} (prover verifier : Rule Held) (prover-fresh_value verifier-fresh_value : Held) : Type 0 where
-  pub rules : SameRules prover verifier
-  pub fresh_value : prover-fresh_value ≡ verifier-fresh_value
-
--- agreement: the verifier repeated the prover's run, and both hold the same
-pub record Agree {Held : Type 0} (calls : List Call) (proved : List Answer) (again : List Call) (said : List Answer) (prover verifier : Held) : Type 0 where
-  pub repeats : Repeats calls proved again said
-  pub same_held : verifier ≡ prover
-
--- both runs of one list of calls, from p₀ and v₀ to p₁ and v₁; of one make and fresh, the two agree, and so they do from any value that both hold, as one made with initial bytes
-pub record Rehearsed {Held : Type 0} (prover verifier : Rule Held) (prover-fresh_value verifier-fresh_value p₀ v₀ p₁ v₁ : Held) (calls : List Call) (proved said : List Answer) : Type 0 where
-  pub proves : Run prover p₀ calls proved p₁
-  pub verifies : Run verifier v₀ (repeated_calls calls proved) said v₁
-  pub agrees : OneMake prover verifier prover-fresh_value verifier-fresh_value → p₀ ≡ prover-fresh_value → v₀ ≡ verifier-fresh_value → Agree calls proved (repeated_calls calls proved) said p₁ v₁
-  pub agrees_from : SameRules prover verifier → p₀ ≡ v₀ → Agree calls proved (repeated_calls calls proved) said p₁ v₁
+-- agreement: the verifier repeated the prover's calls and was answered alike, and both hold the same
+pub record Agree {Held : Type 0} (calls : List Call) (prover verifier : Party Held) : Type 0 where
+  pub repeats : Repeats calls prover.answered (repeated_calls calls prover.answered) verifier.answered
+  pub same_held : verifier.after ≡ prover.after
 
 -- do the places for answers number as many as the calls?
 abbrev pub has_places : List Call → List Answer → List Answer → Bool

@@ -1,17 +1,19 @@
 // Runs of calls.
 ghost use Rattle.std.specs.Prelude.{◌≡◌, ℕ, ◌≤◌, List, length, take, drop, IfSome, MatchOption};
 ghost use Rattle.std.specs.Prelude.{IsTrue, IsFalse};
-ghost use Rattle.runs.specs.Runs.{Run, repeated_calls, calls_instead, kind, as_list, has_places};
-ghost use Rattle.runs.specs.Runs.{Rehearsed};
+ghost use Rattle.runs.specs.Runs.{Run, CanBeHeldAlong, party, repeated_calls, calls_instead, kind};
+ghost use Rattle.runs.specs.Runs.{as_list, has_places, Agree};
 
-use crate::{Answer, Call, CanTakeCalls};
+use crate::{Answer, Call, CanTakeCalls, MadeLike};
 use challenger_traits::Holding;
 
 /// The prover's run: the answer of each call in its place.
 pub fn prove_run<C: CanTakeCalls>(c: &mut C, calls: &[Call], said: &mut [Answer])
     requires places { length said.old ≡ length calls.now }
-    ensures run { Run (C.rule (C.make c.old)) (C.held_value c.old) calls.now said.new
-        (C.held_value c.new) }
+    ensures run { Run (C.rule (C.make c.old)) calls.now
+        (party (C.held_value c.old) said.new (C.held_value c.new)) }
+    ensures holds { CanBeHeldAlong (C.rule (C.make c.old)) (C.can_be_held (C.make c.old))
+        (C.held_value c.old) calls.now }
     ensures make { C.make c.new ≡ C.make c.old }
 {
     for (i, call) in calls.iter().enumerate() {
@@ -41,8 +43,10 @@ pub fn verify_run<C: CanTakeCalls>(
 ) -> usize
     requires answers { length proved.now ≡ length calls.now }
     requires places { length said.old ≡ length calls.now }
-    ensures run { Run (C.rule (C.make c.old)) (C.held_value c.old)
-        (repeated_calls calls.now proved.now) (take result said.new) (C.held_value c.new) }
+    ensures run { Run (C.rule (C.make c.old)) (repeated_calls calls.now proved.now)
+        (party (C.held_value c.old) (take result said.new) (C.held_value c.new)) }
+    ensures count { result ≡ length (repeated_calls calls.now proved.now) }
+    ensures few { result ≤ length said.new }
     ensures rest { drop result said.new ≡ drop result said.old }
     ensures make { C.make c.new ≡ C.make c.old }
 {
@@ -58,7 +62,7 @@ pub fn verify_run<C: CanTakeCalls>(
 }
 
 /// Agreement: the prover makes the calls, and the verifier repeats them. None, with nothing moved, if a slice for answers is not as long as the calls; else how many answers the verifier got.
-pub fn agree<P: CanTakeCalls, V: CanTakeCalls + Holding<Held = P::Held>>(
+pub fn agree<P: MadeLike<V>, V: CanTakeCalls + Holding<Held = P::Held>>(
     prover: &mut P,
     verifier: &mut V,
     calls: &[Call],
@@ -68,11 +72,17 @@ pub fn agree<P: CanTakeCalls, V: CanTakeCalls + Holding<Held = P::Held>>(
     ensures refused { MatchOption result (IsFalse (has_places calls.now proved.old said.old)
         × (prover.new ≡ prover.old) × (verifier.new ≡ verifier.old) × (proved.new ≡ proved.old)
         × (said.new ≡ said.old)) (λ _. IsTrue (has_places calls.now proved.old said.old)) }
-    ensures rehearsed { IfSome result (λ n. Rehearsed (P.rule (P.make prover.old))
-        (V.rule (V.make verifier.old)) (P.fresh_value (P.make prover.old))
-        (V.fresh_value (V.make verifier.old)) (P.held_value prover.old) (V.held_value verifier.old)
-        (P.held_value prover.new) (V.held_value verifier.new) calls.now proved.new
-        (take n said.new)) }
+    ensures agreement { IfSome result (λ n. P.same_meaning (P.make prover.old) (V.make verifier.old)
+        → P.held_value prover.old ≡ V.held_value verifier.old → Agree calls.now
+        (party (P.held_value prover.old) proved.new (P.held_value prover.new))
+        (party (V.held_value verifier.old) (take n said.new) (V.held_value verifier.new))) }
+    ensures proves { IfSome result (λ n. Run (P.rule (P.make prover.old)) calls.now
+        (party (P.held_value prover.old) proved.new (P.held_value prover.new))) }
+    ensures verifies { IfSome result (λ n. Run (V.rule (V.make verifier.old))
+        (repeated_calls calls.now proved.new)
+        (party (V.held_value verifier.old) (take n said.new) (V.held_value verifier.new))) }
+    ensures count { IfSome result (λ n. n ≡ length (repeated_calls calls.now proved.new)) }
+    ensures few { IfSome result (λ n. n ≤ length said.new) }
     ensures rest { IfSome result (λ n. drop n said.new ≡ drop n said.old) }
     ensures makes { (P.make prover.new ≡ P.make prover.old)
         × (V.make verifier.new ≡ V.make verifier.old) }

@@ -2,7 +2,7 @@
 use Rattle.std.specs.Prelude.{ℕ, zero, suc, ◌%◌, ◌^◌, Bool, ◌&&◌, Ok, Err, Result, nat_le, nat_lt, if◌then◌else◌}
 use Rattle.std.proofs.Common.{mod-lt, pow_pos}
 use Rattle.refusal.specs.declared.Refusal.{Refusal}
-use Rattle.refusal.specs.declared.Refusal.TheVariants.{NoDraw}
+use Rattle.refusal.specs.declared.Refusal.TheVariants.{ResamplingError}
 use Rattle.challenger_traits.specs.Meaning.{Reply, reply, Drawing}
 use Rattle.refusal.specs.declared.limits.TheConstants.{GREATEST_DRAW_LIMIT}
 
@@ -16,7 +16,7 @@ DrawResult = Result ℕ (ℕ × ℕ)
 
 abbrev pub or_no_draw : DrawResult → Result ℕ Refusal
 or_no_draw (Ok v) = Ok v
-or_no_draw (Err p) = Err (NoDraw p.0 p.1)
+or_no_draw (Err p) = Err (ResamplingError p.0 p.1)
 
 module _ {Held : Type 0} (draw_of : Held → Reply ℕ Held) where
   -- bits are the low bits of one value

@@ -1,5 +1,5 @@
 // Drawing values: their low bits, and bounded draws, where values are drawn until one is below a bound, within a limit.
-ghost use Rattle.std.specs.Prelude.{◌≡◌, ℕ, ◌%◌, ◌^◌, ◌<◌};
+ghost use Rattle.std.specs.Prelude.{◌≡◌, ℕ, ◌%◌, ◌^◌, ◌<◌, IfOk};
 ghost use Rattle.challenger_traits.specs.Meaning.{Does, Reply, bits_of};
 ghost use Rattle.sampling.specs.Draws.{is_draw_limit, draw_below, bits_drawing};
 
@@ -21,6 +21,7 @@ pub trait CanDraw: Holding {
 pub fn draw_below<C: CanDraw>(c: &mut C, bound: u64, more: u64) -> Result<u64, (u64, u64)>
     ensures does { Does C.make C.held_value c.old c.new result
         (draw_below (C.draw_of (C.make c.old)) bound more (C.held_value c.old)) }
+    ensures below { IfOk result (λ value. value < bound) }
 {
     let mut rest = more;
     let accepted = loop {
@@ -67,6 +68,7 @@ pub fn low_bits(value: u64, bits: u64) -> u64
 pub fn draw_bits<C: CanDraw>(c: &mut C, order: u64, bits: u64) -> Result<u64, Refusal>
     ensures does { Does C.make C.held_value c.old c.new result
         (bits_of (bits_drawing (C.draw_of (C.make c.old)) order) (C.held_value c.old) bits) }
+    ensures below { IfOk result (λ value. value < 2 ^ bits) }
 {
     if !bits_fit(order, bits) {
         return Err(Refusal::Bits);

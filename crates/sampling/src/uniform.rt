@@ -20,7 +20,8 @@ fn join(low: u64, high: u64, bits: u64, more: u64) -> u64
     requires low { low < 2 ^ bits }
     requires high { high < 2 ^ more }
     requires few { bits + more < WORD_BITS }
-    ensures { result ≡ low + high * 2 ^ bits }
+    ensures value { result ≡ low + high * 2 ^ bits }
+    ensures below { result < 2 ^ (bits + more) }
 {
     low + high * power(bits)
 }
@@ -52,6 +53,7 @@ fn draw_parts<C: CanDraw>(
     requires some { 1 ≤ limit }
     ensures does { Does C.make C.held_value c.old c.new result
         (parts_of (C.draw_of (C.make c.old)) order single bits limit (C.held_value c.old)) }
+    ensures below { IfOk result (λ v. v < 2 ^ bits) }
 {
     if bits <= single {
         return draw_part(c, order, bits, limit);
@@ -73,6 +75,7 @@ pub fn uniform_bits<C: CanDraw>(
 ) -> Result<u64, Refusal>
     ensures does { Does C.make C.held_value c.old c.new result
         (uniform_of (C.draw_of (C.make c.old)) order single (C.held_value c.old) bits limit) }
+    ensures below { IfOk result (λ value. value < 2 ^ bits) }
 {
     if !bits_fit(order, bits) {
         return Err(Refusal::Bits);
@@ -83,7 +86,7 @@ pub fn uniform_bits<C: CanDraw>(
     if !is_draw_limit(limit) {
         return Err(Refusal::DrawLimit);
     }
-    draw_parts(c, order, single, bits, limit).map_err(|(value, bound)| Refusal::NoDraw(
+    draw_parts(c, order, single, bits, limit).map_err(|(value, bound)| Refusal::ResamplingError(
         value, bound,
     ))
 }

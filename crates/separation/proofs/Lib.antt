@@ -1,2 +1,5 @@
 pub mod Separating
-mod ScalarsKind
+pub mod BlockKinds
+pub mod Observed
+pub mod DuplexRows
+pub mod MultiRows

@@ -1,31 +1,35 @@
--- Separation: on one row, unlike turns of one kind lead to unlike rows.
-use Rattle.std.specs.Prelude.{◌≡◌, ℕ, ◌<◌, ◌≤◌, Bool, true, ◌≢◌, List, [], ◌∷◌, length, IsTrue}
-use Rattle.permutation.specs.Rows.{HasOnlyCodes, IsRow}
-use Rattle.sponge.specs.Sponge.{SpongeMake, padded_words, row_with_block}
-use Rattle.sponge.specs.declared.TheConstants.{GREATEST_TAG}
+-- Separation: unlike turns lead to unlike rows.
+use Rattle.std.specs.Prelude.{◌≡◌, ℕ, Bool, true, false, ◌≢◌, List, length, Some, Option, IsTrue}
+use Rattle.permutation.specs.Rows.{IsRow}
+use Rattle.sponge.specs.Sponge.{SpongeMake, block_turn}
+use Rattle.separation.specs.Blocks.{Numbers, codes, scalars, words, is_block, is_turn, tag_of, words_of, after_given}
 
--- a kind of block: which lists are blocks, and the words that a block writes; a block is tagged by its length
-pub record BlockKind (order rate : ℕ) : Type 0 where
-  pub block : List ℕ → Bool
-  pub words : List ℕ → List ℕ
-  pub some : (xs : List ℕ) → IsTrue (block xs) → 1 ≤ length xs
-  pub few : (xs : List ℕ) → IsTrue (block xs) → length xs ≤ GREATEST_TAG
-  pub fits : (xs : List ℕ) → IsTrue (block xs) → length (words xs) ≤ rate
-  pub codes : (xs : List ℕ) → IsTrue (block xs) → HasOnlyCodes order (words xs)
-  pub apart : (xs ys : List ℕ) → IsTrue (block xs) → IsTrue (block ys) → length xs ≡ length ys → padded_words (words xs) rate ≡ padded_words (words ys) rate → xs ≡ ys
+-- are both blocks of one kind?
+abbrev pub is_one_kind : Numbers → Numbers → Bool
+is_one_kind (codes xs) (codes ys) = true
+is_one_kind (scalars xs) (scalars ys) = true
+is_one_kind (words xs) (words ys) = true
+is_one_kind a b = false
 
--- the row after a turn: the empty list is a turn with no block, any other a block
-abbrev pub row_after : {order : ℕ} (k : SpongeMake order) → BlockKind order k.rate → List ℕ → List ℕ → List ℕ
-row_after k kind row [] = k.image row
-row_after k kind row (x ∷ xs) = k.image (row_with_block k row (kind.words (x ∷ xs)) (length (x ∷ xs)))
+-- are both blocks of one kind, or is one of them none?
+abbrev pub is_one_kind_or_none : Option Numbers → Option Numbers → Bool
+is_one_kind_or_none (Some a) (Some b) = is_one_kind a b
+is_one_kind_or_none a b = true
 
--- is the list a turn of this kind?
-abbrev pub is_turn : {order rate : ℕ} → BlockKind order rate → List ℕ → Bool
-is_turn kind [] = true
-is_turn kind (x ∷ xs) = kind.block (x ∷ xs)
+-- unlike blocks of one kind, which differ in length or in a number, or a block and none
+pub record AreUnlike (left right : Option Numbers) : Type 0 where
+  pub one_kind : IsTrue (is_one_kind_or_none left right)
+  pub not_same : left ≢ right
 
--- the lists may differ in their length or in a number, and one of them may be empty
-abbrev pub Separation : {order : ℕ} → SpongeMake order → Type 0
-Separation {order} k =
-    (kind : BlockKind order k.rate) (row : List ℕ) → IsRow order row → k.rate < length row
-    → (xs ys : List ℕ) → IsTrue (is_turn kind xs) → IsTrue (is_turn kind ys) → xs ≢ ys → row_after k kind row xs ≢ row_after k kind row ys
+-- of a sponge: on each row of its width, unlike turns lead to unlike rows
+abbrev pub UnlikeTurnsLeadToUnlikeRows : {order : ℕ} → ℕ → SpongeMake order → Type 0
+UnlikeTurnsLeadToUnlikeRows {order} sampled k =
+    (row : List ℕ) → IsRow order row → length row ≡ k.width
+    → (left right : Option Numbers) → IsTrue (is_turn sampled order k.rate left) → IsTrue (is_turn sampled order k.rate right)
+    → AreUnlike left right → (after_given sampled k row left).row ≢ (after_given sampled k row right).row
+
+-- of a sponge: a turn with a block writes the block's words under its tag
+abbrev pub EachBlockIsWrittenUnderItsTag : {order : ℕ} → ℕ → SpongeMake order → Type 0
+EachBlockIsWrittenUnderItsTag {order} sampled k =
+    (row : List ℕ) (block : Numbers) → IsTrue (is_block sampled order k.rate block)
+    → after_given sampled k row (Some block) ≡ block_turn k row (words_of sampled order block) (tag_of block)

@@ -1,17 +1,17 @@
 -- A check on a transcript, and a grind by the transcript's search: what a check accepts is what the search tests.
-use Rattle.std.proofs.Common.{◌≡◌, ℕ, ◌+◌, ◌-◌, ◌%◌, ◌^◌, ◌<◌, ◌≤◌, true, false, ◌&&◌, eqb, ltb, leb, [], ◌∷◌, Some, None, Ok, Err, sym, refl, ap, ◌∙◌, ⊎_elim, arith}
+use Rattle.std.proofs.Common.{◌≡◌, ℕ, ◌+◌, ◌-◌, ◌%◌, ◌^◌, ◌<◌, ◌≤◌, true, false, eqb, ltb, Some, None, Ok, Err, sym, ap, ◌∙◌, ⊎_elim, arith}
 use Rattle.std.proofs.lemmas.Nat.{and_mask}
-use Rattle.std.proofs.lemmas.Bool.{lt-ltb, le-ltb, le-leb, ne_eqb, cond-true, cond-false, cases_lt, and_from}
+use Rattle.std.proofs.lemmas.Bool.{lt-ltb, le-ltb, ne_eqb, cond-true, cond-false, cases_lt}
 use Rattle.refusal.specs.declared.Refusal.TheVariants.{NoWitness}
 use Rattle.challenger_traits.specs.Meaning.{reply, bits_fit}
 use Rattle.challenger_traits.specs.Grinding.{says_yes, check_of, check_after_observe, accepts, grind_of, NoneBelow}
 use Rattle.challenger_traits.specs.GrindingProofs.{grind_found, grind_spent}
 use Rattle.challenger_traits.proofs.Checks.{check_judged}
 use Rattle.byte_transcript.specs.declared.trial.TheConstants.{MOST_CANDIDATES}
-use Rattle.byte_transcript.specs.Transcript.{Transcript, le_bytes, after_bytes, after_observe_bytes, word, after_word, passes, least_candidate, candidate_count}
+use Rattle.byte_transcript.specs.Transcript.{Transcript, le_bytes, after_bytes, word, after_word, passes, least_candidate, candidate_count}
 use Rattle.byte_transcript.proofs.Sought.{found, missed}
-use Rattle.byte_transcript.specs.Encoding.{encoded_numbers}
-use Rattle.serializing_challenger.specs.Rules.{after_observe, means}
+use Rattle.serializing_challenger.specs.Rules.{means}
+use Rattle.serializing_challenger.specs.RulesProofs.{after_observe_one}
 use Rattle.refusal.specs.declared.limits.TheConstants.{GREATEST_SAMPLED_ORDER}
 
 candidate_count_is : (n : ℕ) → n ≤ MOST_CANDIDATES → candidate_count n ≡ n
@@ -22,20 +22,13 @@ candidate_count_is n le =
     (cases_lt n MOST_CANDIDATES)
 
 module _ {Held : Type 0} (order : ℕ) (m : Transcript Held) where
-  -- one code is observed as its four bytes, where they fit
-  pub put_one : (h : Held) (w : ℕ) → 4 ≤ m.room h → after_observe_bytes m h (encoded_numbers 4 (w ∷ [])) ≡ Ok (after_bytes m h (le_bytes w))
-  put_one h w r = cond-true (leb 4 (m.room h)) _ _ (le-leb 4 (m.room h) r)
-
-  after_observe_one : (h : Held) (w : ℕ) → w < order → 4 ≤ m.room h → after_observe order m h (w ∷ []) ≡ Ok (after_bytes m h (le_bytes w))
-  after_observe_one h w lt r = cond-true (ltb w order && true) _ _ (and_from (ltb w order) true (lt-ltb w order lt) refl) ∙ put_one h w r
-
   module _ (h : Held) (b : ℕ) (q : bits_fit order b ≡ true) (some : 1 ≤ b) (roomy : 8 ≤ m.room (m.after_draw h)) where
     -- a check of a code: its four bytes are observed after the dropped byte, and a word is drawn
     pub check_is : (w : ℕ) → w < order
         → check_of (means order m) h b w ≡ reply (Ok (eqb (word m (after_bytes m (m.after_draw h) (le_bytes w)) % 2 ^ b) 0)) (after_word m (after_bytes m (m.after_draw h) (le_bytes w)))
     check_is w lt =
         check_judged (means order m) h b w q (ne_eqb b 0 (λ e. omega arith)) (lt-ltb w order lt)
-        ∙ ap (λ o. check_after_observe (means order m) o h b) (after_observe_one (m.after_draw h) w lt (omega (arith, roomy)))
+        ∙ ap (λ o. check_after_observe (means order m) o h b) (after_observe_one order m (m.after_draw h) w lt (omega (arith, roomy)))
 
     accepts_is : (w : ℕ) → w < order → accepts (means order m) h b w ≡ passes m (m.after_draw h) (2 ^ b - 1) w
     accepts_is w lt =

@@ -1,8 +1,13 @@
+pub use Rattle.refusal.specs.Made
 pub use Rattle.byte_transcript.specs.Encoding
+pub use Rattle.byte_transcript.specs.SameTranscript
 pub use Rattle.byte_transcript.specs.Transcript
 pub use Rattle.challenger_traits.specs.Grinding
 pub use Rattle.challenger_traits.specs.Meaning
 pub use Rattle.code_bits.specs.CodeBits
+pub use Rattle.runs.specs.Interface
 pub use Rattle.runs.specs.Runs
 pub mod Rules
+pub mod RulesProofs
 pub mod Calls
+pub mod CallsProofs

@@ -1,8 +1,9 @@
 -- The rules of the serializing challenger, over any byte transcript's meaning and any order.
-use Rattle.std.specs.Prelude.{◌≡◌, ℕ, ◌-◌, ◌%◌, ◌^◌, ◌⊎◌, List, Err, Result, nat_lt, if◌then◌else◌, IsTrue, IsFalse}
+use Rattle.std.specs.Prelude.{ℕ, ◌-◌, ◌%◌, ◌^◌, List, Some, None, Err, Option, Result, nat_le, if◌then◌else◌}
 use Rattle.std.proofs.Common.{mod-lt, pow_pos}
 use Rattle.refusal.specs.declared.Refusal.{Refusal}
-use Rattle.refusal.specs.declared.Refusal.TheVariants.{Bits, DrawLimit, NotCode}
+use Rattle.refusal.specs.declared.Refusal.TheVariants.{SampledOrder, Bits, DrawLimit, NotCode}
+use Rattle.refusal.specs.declared.limits.TheConstants.{GREATEST_SAMPLED_ORDER}
 use Rattle.domain.specs.Codes.{all_codes}
 use Rattle.challenger_traits.specs.Meaning.{Reply, reply, reply_if_passed, Drawing, bits_fit, bits_of}
 use Rattle.challenger_traits.specs.Grinding.{Means}
@@ -10,6 +11,10 @@ use Rattle.sampling.specs.Draws.{is_draw_limit, or_no_draw, draw_below}
 use Rattle.byte_transcript.specs.Transcript.{Transcript, after_observe_bytes, word, after_word}
 use Rattle.code_bits.specs.CodeBits.{code_bits}
 use Rattle.byte_transcript.specs.Encoding.{encoded_numbers}
+
+-- the question of making: is the order at most the greatest?
+abbrev pub order_no : ℕ → Option Refusal
+order_no order = if nat_le order GREATEST_SAMPLED_ORDER then None else Some SampledOrder
 
 module _ {Held : Type 0} (order : ℕ) (m : Transcript Held) where
   -- what an observe leaves, or its refusal: each code as four bytes
@@ -37,7 +42,3 @@ module _ {Held : Type 0} (order : ℕ) (m : Transcript Held) where
   -- a check starts by drawing a byte, which is dropped
   abbrev pub means : Means Held
   means = record { after_observe = after_observe; drawing = drawing; check_start = m.after_draw }
-
--- a check is refused for its bits, or for a witness that is no code, and for nothing else: after the dropped byte the witness always fits
-abbrev pub CheckRefused : ℕ → ℕ → ℕ → Refusal → Type 0
-CheckRefused order b w e = (IsFalse (bits_fit order b) × (e ≡ Bits)) ⊎ (IsTrue (bits_fit order b) × IsFalse (nat_lt w order) × (e ≡ NotCode))

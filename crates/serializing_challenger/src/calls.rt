@@ -1,13 +1,39 @@
 // The calls as values.
-ghost use Rattle.std.specs.Prelude.{◌≡◌};
-ghost use Rattle.runs.specs.Runs.{OneMake, SameRules};
-ghost use Rattle.serializing_challenger.specs.Calls.{rule as rule_of, stands as checks_stand};
+ghost use Rattle.byte_transcript.specs.SameTranscript.{SameTranscript};
+ghost use Rattle.serializing_challenger.specs.Calls.{own_rule as own_rule_of, rule as rule_of};
+ghost use Rattle.serializing_challenger.specs.CallsProofs.{stands as checks_stand};
+ghost use Rattle.serializing_challenger.specs.CallsProofs.{reads as reads_lists};
+ghost use Rattle.serializing_challenger.specs.CallsProofs.{same_rules as rules_same};
 
 use crate::SerializingChallenger32;
-use byte_transcript::{ByteGrindingChallenger, ByteTranscript};
-use challenger_traits::{CanObserve, CanSampleBits, GrindingChallenger, Holding};
+use byte_transcript::ByteGrindingChallenger;
+use challenger_traits::{CanObserveDigest, CanSample, CanSampleUniformBits, Holding};
 use domain::Domain;
-use runs::{Answer, Call, CanTakeCalls};
+use runs::{Answer, Call, CanTakeCalls, HasOwnCalls, MadeLike, call_interface};
+
+impl<D: Domain<ORDER> + Copy, T: ByteGrindingChallenger + Copy, const ORDER: u64> HasOwnCalls
+    for SerializingChallenger32<D, T, ORDER> {
+    ghost own_rule = { λ k. own_rule_of ORDER (T.meaning k) };
+
+    fn own_call(&mut self, call: &Call) -> Answer {
+        match call {
+            Call::ObserveDigestBytes(bytes) => self
+                .observe_digest(bytes)
+                .map_or_else(Answer::Refused, |()| Answer::Done),
+            Call::ObserveDigestWords(words) => self
+                .observe_digest(words)
+                .map_or_else(Answer::Refused, |()| Answer::Done),
+            Call::SampleWithin(limit) => CanSample::<u64>::sample(self, *limit).map_or_else(
+                Answer::Refused,
+                Answer::Code,
+            ),
+            Call::UniformBits(bits, limit) => self
+                .sample_uniform_bits(*bits, *limit)
+                .map_or_else(Answer::Refused, Answer::Bits),
+            _ => Answer::Absent,
+        }
+    }
+}
 
 impl<D: Domain<ORDER> + Copy, T: ByteGrindingChallenger + Copy, const ORDER: u64> CanTakeCalls
     for SerializingChallenger32<D, T, ORDER> {
@@ -15,53 +41,24 @@ impl<D: Domain<ORDER> + Copy, T: ByteGrindingChallenger + Copy, const ORDER: u64
 
     ghost stands = { λ k. checks_stand ORDER (T.meaning k) };
 
+    ghost reads_numbers = { λ k. reads_lists ORDER (T.meaning k) };
+
     fn call(&mut self, call: &Call) -> Answer {
-        match call {
-            Call::Observe(codes) => self
-                .observe(codes)
-                .map_or_else(Answer::Refused, |()| Answer::Done),
-            Call::ObserveDigestBytes(bytes) => self
-                .observe_digest(bytes)
-                .map_or_else(Answer::Refused, |()| Answer::Done),
-            Call::ObserveDigestWords(words) => self
-                .observe_digest_words(words)
-                .map_or_else(Answer::Refused, |()| Answer::Done),
-            Call::SampleWithin(limit) => self
-                .sample(*limit)
-                .map_or_else(Answer::Refused, Answer::Code),
-            Call::SampleBits(bits) => self
-                .sample_bits(*bits)
-                .map_or_else(Answer::Refused, Answer::Bits),
-            Call::UniformBits(bits, limit) => self
-                .sample_uniform_bits(*bits, *limit)
-                .map_or_else(Answer::Refused, Answer::Bits),
-            Call::CheckWitness(bits, witness) => self
-                .check_witness(*bits, *witness)
-                .map_or_else(Answer::Refused, Answer::Checked),
-            Call::Grind(bits, budget) => self.grind(*bits, *budget).map_or_else(
-                Answer::Refused,
-                |(witness, trials)| Answer::Ground(witness, trials),
-            ),
-            Call::ObserveDigest(_) | Call::ObserveBytes(_) | Call::Sample => Answer::Absent,
-        }
+        call_interface(self, call)
     }
 }
 
-impl<D: Domain<ORDER>, T: ByteTranscript, const ORDER: u64> SerializingChallenger32<D, T, ORDER> {
-    /// Over transcripts of one meaning each call means the same to two challengers, also where they are of different types; if their transcripts hold the same when fresh, they are of one make.
-    pub fn one_make<E: Domain<ORDER>, U: ByteTranscript + Holding<Held = T::Held>>(
-        &self,
-        verifier: &SerializingChallenger32<E, U, ORDER>,
-    )
-        ensures rules { T.meaning (T.make self.now.inner) ≡ U.meaning (U.make verifier.now.inner)
-            → SameRules (rule_of ORDER (T.meaning (T.make self.now.inner)))
-            (rule_of ORDER (U.meaning (U.make verifier.now.inner))) }
-        ensures make { T.meaning (T.make self.now.inner) ≡ U.meaning (U.make verifier.now.inner)
-            → T.fresh_value (T.make self.now.inner) ≡ U.fresh_value (U.make verifier.now.inner)
-            → OneMake (rule_of ORDER (T.meaning (T.make self.now.inner)))
-            (rule_of ORDER (U.meaning (U.make verifier.now.inner)))
-            (T.fresh_value (T.make self.now.inner)) (U.fresh_value (U.make verifier.now.inner)) }
-    {
-        let _ = verifier;
-    }
+impl<
+    D: Domain<ORDER> + Copy,
+    T: ByteGrindingChallenger + Copy,
+    E: Domain<ORDER> + Copy,
+    U: ByteGrindingChallenger + Holding<Held = T::Held> + Copy,
+    const ORDER: u64,
+> MadeLike<SerializingChallenger32<E, U, ORDER>> for SerializingChallenger32<D, T, ORDER> {
+    // The order is of the type; all else that making fixes is the transcript's.
+    ghost same_meaning = { λ k l. SameTranscript (T.meaning k) (U.meaning l) };
+
+    ghost same_rules = { λ k l same h c ok.
+        rules_same ORDER (T.meaning k) (U.meaning l) (T.stays_held k) same h c
+        (T.meaning_covers k h ok) };
 }

@@ -1,8 +1,8 @@
 // Checking and grinding.
 ghost use Rattle.std.specs.Prelude.{◌≡◌, IfErr};
 ghost use Rattle.challenger_traits.specs.Meaning.{Does};
-ghost use Rattle.challenger_traits.specs.Grinding.{check_of};
-ghost use Rattle.serializing_challenger.specs.Rules.{means, CheckRefused};
+ghost use Rattle.challenger_traits.specs.Grinding.{check_of, CheckRefused};
+ghost use Rattle.serializing_challenger.specs.Rules.{means};
 
 use crate::SerializingChallenger32;
 use crate::challenger::drop_byte;
@@ -16,11 +16,11 @@ impl<D: Domain<ORDER>, T: ByteTranscript, const ORDER: u64> SerializingChallenge
     // Works on the transcript itself, where `check_by_parts` makes a copy: after the dropped byte nothing can be refused.
     /// Draws a byte and drops it, observes the witness, and says whether the bits drawn then are 0.
     #[tactic(auto, unfolding(challenger_traits::specs::Grinding::check_of))]
-    pub fn check(&mut self, bits: u64, witness: u64) -> Result<bool, Refusal>
+    pub(crate) fn check(&mut self, bits: u64, witness: u64) -> Result<bool, Refusal>
         ensures does { Does (λ s. T.make s.inner) (λ s. T.held_value s.inner) self.old self.new
             result (check_of (means ORDER (T.meaning (T.make self.old.inner)))
             (T.held_value self.old.inner) bits witness) }
-        ensures refusals { IfErr result (λ e. CheckRefused ORDER bits witness e) }
+        ensures refusals { IfErr result (CheckRefused ORDER bits witness) }
     {
         if !bits_fit(ORDER, bits) {
             return Err(Refusal::Bits);
@@ -44,7 +44,7 @@ impl<D: Domain<ORDER> + Copy, T: ByteGrindingChallenger + Copy, const ORDER: u64
     }
 
     // The transcript searches, by its own `find_witness`, from where a check of it starts.
-    #[tactic(auto, unfolding(challenger_traits::specs::Grinding::grind_of))]
+    #[tactic(auto, unfolding(challenger_traits::specs::Grinding::grind_of, challenger_traits::specs::Grinding::check_of))]
     fn grind(&mut self, bits: u64, budget: u64) -> Result<(u64, u64), Refusal> {
         if !bits_fit(ORDER, bits) {
             return Err(Refusal::Bits);

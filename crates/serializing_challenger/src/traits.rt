@@ -1,14 +1,21 @@
-// What is held, observing, drawing, and where a check starts.
+// What is held, observing, sampling, where a check starts, and the digest at the end.
+ghost use Rattle.byte_transcript.specs.Transcript.{after_observe_bytes};
+ghost use Rattle.byte_transcript.specs.Encoding.{encoded_numbers};
 ghost use Rattle.serializing_challenger.specs.Rules.{after_observe as after_observe_of, kept_bits};
 ghost use Rattle.serializing_challenger.specs.Rules.{drawing as drawing_of};
+ghost use Rattle.serializing_challenger.specs.Rules.{sample_of as sample_of_held, uniform_of};
+ghost use Rattle.serializing_challenger.specs.RulesProofs.{code_taken};
 
 use crate::SerializingChallenger32;
 use crate::challenger::drop_byte;
-use byte_transcript::{ByteTranscript, draw_word, observe_numbers};
-use challenger_traits::{CanObserve, CanSampleBits, CanStartCheck, Holding, bits_fit};
+use byte_transcript::{ByteTranscript, CanFinalizeTranscript, draw_word, observe_numbers};
+use challenger_traits::{
+    CanFinalizeDigest, CanObserve, CanObserveDigest, CanSample, CanSampleBits,
+    CanSampleUniformBits, CanStartCheck, FieldChallenger, Holding, bits_fit,
+};
 use domain::{Domain, all_codes};
 use refusal::Refusal;
-use sampling::{CanDraw, low_bits};
+use sampling::{CanDraw, is_draw_limit, low_bits};
 
 impl<D: Domain<ORDER>, T: ByteTranscript, const ORDER: u64> Holding
     for SerializingChallenger32<D, T, ORDER> {
@@ -20,10 +27,12 @@ impl<D: Domain<ORDER>, T: ByteTranscript, const ORDER: u64> Holding
 
     ghost held_value = { λ s. T.held_value s.inner };
 
-    ghost fresh_value = { T.fresh_value };
+    ghost can_be_held = { T.can_be_held };
+
+    ghost holds = { λ s. T.holds s.inner };
 }
 
-impl<D: Domain<ORDER>, T: ByteTranscript, const ORDER: u64> CanObserve
+impl<D: Domain<ORDER>, T: ByteTranscript, const ORDER: u64> CanObserve<u64>
     for SerializingChallenger32<D, T, ORDER> {
     ghost after_observe = { λ k. after_observe_of ORDER (T.meaning k) };
 
@@ -32,6 +41,38 @@ impl<D: Domain<ORDER>, T: ByteTranscript, const ORDER: u64> CanObserve
             return Err(Refusal::NotCode);
         }
         observe_numbers(&mut self.inner, codes, 4)
+    }
+}
+
+impl<D: Domain<ORDER>, T: ByteTranscript, const ORDER: u64> CanObserveDigest<u8>
+    for SerializingChallenger32<D, T, ORDER> {
+    ghost after_observe_digest = { λ k. after_observe_bytes (T.meaning k) };
+
+    fn observe_digest(&mut self, digest: &[u8]) -> Result<(), Refusal> {
+        self.inner.observe_bytes(digest)
+    }
+}
+
+impl<D: Domain<ORDER>, T: ByteTranscript, const ORDER: u64> CanObserveDigest<u64>
+    for SerializingChallenger32<D, T, ORDER> {
+    ghost after_observe_digest = { λ k h words. after_observe_bytes (T.meaning k) h
+        (encoded_numbers 8 words) };
+
+    // A digest of 64-bit words, each as eight bytes.
+    fn observe_digest(&mut self, digest: &[u64]) -> Result<(), Refusal> {
+        observe_numbers(&mut self.inner, digest, 8)
+    }
+}
+
+impl<D: Domain<ORDER>, T: ByteTranscript, const ORDER: u64> CanSample<u64>
+    for SerializingChallenger32<D, T, ORDER> {
+    /// The draw limit.
+    type Given = u64;
+
+    ghost sample_of = { λ k. sample_of_held ORDER (T.meaning k) };
+
+    fn sample(&mut self, limit: u64) -> Result<u64, Refusal> {
+        self.sample(limit)
     }
 }
 
@@ -52,6 +93,40 @@ impl<D: Domain<ORDER>, T: ByteTranscript, const ORDER: u64> CanSampleBits
     }
 }
 
+impl<D: Domain<ORDER>, T: ByteTranscript, const ORDER: u64> CanSampleUniformBits
+    for SerializingChallenger32<D, T, ORDER> {
+    ghost uniform_bits_of = { λ k. uniform_of ORDER (T.meaning k) };
+
+    // The low bits of one word, once the bits and the draw limit are in order.
+    #[tactic(auto, unfolding(crate::specs::Rules::uniform_of))]
+    fn sample_uniform_bits(&mut self, bits: u64, limit: u64) -> Result<u64, Refusal> {
+        if !bits_fit(ORDER, bits) {
+            return Err(Refusal::Bits);
+        }
+        if !is_draw_limit(limit) {
+            return Err(Refusal::DrawLimit);
+        }
+        self.sample_bits(bits)
+    }
+}
+
+impl<D: Domain<ORDER>, T: ByteTranscript, const ORDER: u64> FieldChallenger
+    for SerializingChallenger32<D, T, ORDER> {}
+
+impl<D: Domain<ORDER>, T: CanFinalizeTranscript, const ORDER: u64> CanFinalizeDigest
+    for SerializingChallenger32<D, T, ORDER> {
+    type Digest = T::Digest;
+
+    ghost digest_numbers = { T.digest_numbers };
+
+    ghost digest_of = { λ k. (T.meaning k).digest };
+
+    // The digest of the transcript.
+    fn finalize(self) -> T::Digest {
+        self.inner.finalize()
+    }
+}
+
 impl<D: Domain<ORDER>, T: ByteTranscript, const ORDER: u64> CanStartCheck
     for SerializingChallenger32<D, T, ORDER> {
     ghost check_start = { λ k. (T.meaning k).after_draw };
@@ -59,6 +134,9 @@ impl<D: Domain<ORDER>, T: ByteTranscript, const ORDER: u64> CanStartCheck
     fn start_check(&mut self) {
         drop_byte(&mut self.inner);
     }
+
+    ghost takes_code = { λ k h w ok lt.
+        code_taken ORDER (T.meaning k) h w (T.meaning_covers k h ok) lt };
 }
 
 impl<D: Domain<ORDER>, T: ByteTranscript, const ORDER: u64> CanDraw

@@ -10,9 +10,9 @@ use hasher::CryptographicHasher;
 pub struct Sha256;
 
 impl CryptographicHasher<32> for Sha256 {
-    ghost digest = { sha256 };
+    ghost digest = { λ _. sha256 };
 
-    ghost hashing = { «sha256_hashing» };
+    ghost hashing = { λ _. «sha256_hashing» };
 
     fn hash(&self, input: &[u8]) -> [u8; 32] {
         hash(input)

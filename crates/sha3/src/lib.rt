@@ -82,9 +82,9 @@ pub fn hash_abc() -> [u8; 32]
 pub struct Sha3_256;
 
 impl CryptographicHasher<32> for Sha3_256 {
-    ghost digest = { «sha3_256» };
+    ghost digest = { λ _. «sha3_256» };
 
-    ghost hashing = { «sha3_hashing» };
+    ghost hashing = { λ _. «sha3_hashing» };
 
     fn hash(&self, input: &[u8]) -> [u8; 32] {
         hash(input)

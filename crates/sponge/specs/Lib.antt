@@ -1,3 +1,7 @@
 pub use Rattle.buffer.specs.Items
 pub mod Sponge
 pub mod SpongeHeld
+pub mod AbsorbingProofs
+pub mod SameSponge
+pub mod SameSpongeProofs
+pub mod SpongeHeldProofs

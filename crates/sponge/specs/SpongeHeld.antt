@@ -1,5 +1,7 @@
 -- What a sponge in memory stands for.
-use Rattle.std.specs.Prelude.{◌≡◌, ℕ, List, Bool, ◌&&◌, [], replicate, nat_le, nat_lt, IsTrue}
+use Rattle.std.specs.Prelude.{◌≡◌, ℕ, List, Bool, ◌&&◌, [], replicate, Some, None, Option, nat_le, nat_lt, if◌then◌else◌}
+use Rattle.refusal.specs.declared.Refusal.{Refusal}
+use Rattle.refusal.specs.declared.Refusal.TheVariants.{Shape}
 use Rattle.domain.specs.Arithmetic.{Arithmetic}
 use Rattle.domain.specs.declared.Domain.{Ghosts as DomainGhosts}
 use Rattle.permutation.specs.declared.CryptographicPermutation.{Ghosts as PermutationGhosts}
@@ -12,6 +14,10 @@ use Rattle.refusal.specs.declared.limits.TheConstants.{WIDEST_ROW}
 -- is the rate at least 1 and below the width, and the width at most the widest row?
 abbrev pub is_shape : ℕ → ℕ → Bool
 is_shape width rate = nat_le 1 rate && (nat_lt rate width && nat_le width WIDEST_ROW)
+
+-- the question of making
+abbrev pub shape_no : ℕ → ℕ → Option Refusal
+shape_no width rate = if is_shape width rate then None else Some Shape
 
 -- WIDTH, RATE and the permutation, as making fixes them
 abbrev pub parameters_of : {P : Type 0} → ℕ → ℕ → P → Parameters P
@@ -35,7 +41,6 @@ module _ {D P : Type 0} {order : ℕ} {d : DomainGhosts D order} {p : Permutatio
 
   -- a new sponge of this width, rate and permutation: zeros, and no output
   pub record IsFresh (width rate : ℕ) (permutation : P) (s : Sponge D P order d p) : Type 0 where
-    pub shape : IsTrue (is_shape width rate)
     pub permutation_is : s.permutation ≡ permutation
     pub width_is : s.width ≡ width
     pub rate_is : s.rate ≡ rate

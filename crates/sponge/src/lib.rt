@@ -16,9 +16,6 @@ mod parameters;
 
 pub use parameters::Parameters;
 
-/// The greatest tag: tags are codes of every domain, whose orders are at least 256, and so unlike tags stay unlike.
-pub const GREATEST_TAG: u64 = 255;
-
 /// A row of `width` codes and its permutation. Blocks write the first `rate` cells, and outputs are read from them.
 // The width stands beside the row, so that what making fixed is told without the cells.
 #[derive(Copy, Drop)]
@@ -58,14 +55,12 @@ impl<D: Domain<ORDER>, P: CryptographicPermutation<D, ORDER> + Drop, const ORDER
     P,
     ORDER,
 > {
-    ghost use Rattle.std.specs.Prelude.{◌≡◌, MatchResult};
-    ghost use Rattle.refusal.specs.declared.Refusal.TheVariants.{Shape};
-    ghost use Rattle.sponge.specs.SpongeHeld.{is_shape, IsFresh};
+    ghost use Rattle.refusal.specs.Made.{MadeUnless};
+    ghost use Rattle.sponge.specs.SpongeHeld.{shape_no, IsFresh};
 
     /// Zeros, and no output; refused if the rate is 0 or not below the width, or the width is above `WIDEST_ROW`.
     pub fn new(width: usize, rate: usize, permutation: P) -> Result<Self, Refusal>
-        ensures { MatchResult result (IsFresh width rate permutation)
-            (λ e. IsFalse (is_shape width rate) × (e ≡ Shape)) }
+        ensures { MadeUnless (shape_no width rate) (IsFresh width rate permutation) result }
     {
         if rate < 1 || rate >= width || width > WIDEST_ROW {
             return Err(Refusal::Shape);
@@ -128,7 +123,7 @@ impl<D: Domain<ORDER>, P: CryptographicPermutation<D, ORDER>, const ORDER: u64> 
     /// Writes a block, these words under this tag: they go into the first cells, the rest of the rate is zeroed, and cell `rate` gains the tag.
     pub fn write_block(&mut self, words: &Buffer<ORDER, WIDEST_ROW>, tag: u64)
         requires room { length (items words.now) ≤ self.old.rate }
-        requires tagged { tag ≤ GREATEST_TAG }
+        requires tagged { tag < ORDER }
         ensures state { held_value self.new ≡ sponge_state
             (row_with_block (make_meaning self.old) (held_value self.old).row (items words.now) tag)
             (held_value self.old).outputs }
@@ -142,7 +137,7 @@ impl<D: Domain<ORDER>, P: CryptographicPermutation<D, ORDER>, const ORDER: u64> 
     /// A turn with a block: it is written, and the row is permuted.
     pub fn absorb(&mut self, words: &Buffer<ORDER, WIDEST_ROW>, tag: u64)
         requires room { length (items words.now) ≤ self.old.rate }
-        requires tagged { tag ≤ GREATEST_TAG }
+        requires tagged { tag < ORDER }
         ensures state { held_value self.new ≡ block_turn (make_meaning self.old)
             (held_value self.old).row (items words.now) tag }
         ensures make { SameMake self.new self.old }

@@ -2,8 +2,7 @@
 #![tactic(auto)]
 
 use hasher::CryptographicHasher;
-use sha3::Sha3_256;
-use sha256::Sha256;
+use hashers::Hasher;
 use std::{array, fs, io};
 
 /// The inputs of the standards' examples: no byte, "abc", 448 bits, 896 bits.
@@ -64,10 +63,10 @@ fn examples<H: CryptographicHasher<32>>(h: &H, digests: &[&str; 4]) -> usize {
 fn main(rt: HostRuntime) -> io::Result<()> {
     let of_sha256 = fs::read_to_string(&rt, "sha256.txt")?;
     let of_sha3 = fs::read_to_string(&rt, "sha3-256.txt")?;
-    let a = examples(&Sha256, &SHA256_EXAMPLES);
-    let b = agreeing(&Sha256, of_sha256.as_str());
-    let c = examples(&Sha3_256, &SHA3_EXAMPLES);
-    let d = agreeing(&Sha3_256, of_sha3.as_str());
+    let a = examples(&Hasher::Sha256, &SHA256_EXAMPLES);
+    let b = agreeing(&Hasher::Sha256, of_sha256.as_str());
+    let c = examples(&Hasher::Sha3_256, &SHA3_EXAMPLES);
+    let d = agreeing(&Hasher::Sha3_256, of_sha3.as_str());
     println!(rt; "SHA-256 examples: {a} of 4 agree")?;
     println!(rt; "SHA-256 lengths 0 to 1024: {b} of 1025 agree")?;
     println!(rt; "SHA3-256 examples: {c} of 4 agree")?;

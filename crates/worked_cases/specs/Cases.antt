@@ -1,6 +1,6 @@
 -- Worked cases, as runs by the rules.
 use Rattle.std.specs.Prelude.{◌≡◌, ℕ, List, [], ◌∷◌, Some, None, reverse}
-use Rattle.refusal.specs.declared.Refusal.TheVariants.{Shape, Batch, Bits as BitsNo, NoWitness, NoDraw}
+use Rattle.refusal.specs.declared.Refusal.TheVariants.{Shape, AbsorbLengthTagOverflow, Bits as BitsNo, NoWitness, ResamplingError}
 use Rattle.domain.specs.Modular.{bytes, baby_bear, goldilocks}
 use Rattle.permutation.specs.Ladder.{ladder_rounds}
 use Rattle.sponge.specs.Sponge.{SpongeMake}
@@ -68,7 +68,7 @@ pub record WorkedCases : Type 0 where
   pub sample : duplex_answers (baby_bear_mirror 3 2) (observe (5 ∷ 7 ∷ []) ∷ observe (9 ∷ []) ∷ Sample ∷ []) ≡ Done ∷ Done ∷ Code 0 ∷ []
   pub row : (duplex_value (baby_bear_mirror 3 2) (observe (5 ∷ 7 ∷ []) ∷ observe (9 ∷ []) ∷ Sample ∷ [])).row ≡ 6 ∷ 0 ∷ 9 ∷ []
   -- observe 0, 2013265920; uniform bits 3 within 1 draw: 26 with 2013265920 twice; again: 2
-  pub uniform : duplex_answers (baby_bear_mirror 3 2) (observe (0 ∷ 2013265920 ∷ []) ∷ UniformBits 3 1 ∷ UniformBits 3 1 ∷ []) ≡ Done ∷ Refused (NoDraw 2013265920 2013265920) ∷ Bits 2 ∷ []
+  pub uniform : duplex_answers (baby_bear_mirror 3 2) (observe (0 ∷ 2013265920 ∷ []) ∷ UniformBits 3 1 ∷ UniformBits 3 1 ∷ []) ≡ Done ∷ Refused (ResamplingError 2013265920 2013265920) ∷ Bits 2 ∷ []
   -- sample bits 30 passes, 31 gets 20
   pub bits : duplex_answers (baby_bear_mirror 3 2) (SampleBits 30 ∷ SampleBits 31 ∷ []) ≡ Bits 0 ∷ Refused BitsNo ∷ []
   -- a grind of 3 bits within 3 gives 2 after 3 trials, and the row 40, 6; within 2 it gets 25 with 2 trials
@@ -86,5 +86,5 @@ pub record WorkedCases : Type 0 where
   pub output : (serial_value (observe (258 ∷ []) ∷ SampleBits 3 ∷ [])).outputs ≡ 4 ∷ []
   -- Bytes in Goldilocks: RATE 36 passes 13, 37 fails; WIDTH 64 passes 10, 65 fails
   pub batch : first_no 256 18446744069414584321 64 36 ≡ None
-  pub long_batch : first_no 256 18446744069414584321 64 37 ≡ Some (Batch 259 255)
+  pub long_batch : first_no 256 18446744069414584321 64 37 ≡ Some (AbsorbLengthTagOverflow 259 255)
   pub too_wide : first_no 256 18446744069414584321 65 36 ≡ Some Shape

@@ -1,25 +1,16 @@
-use Rattle.std.proofs.Common.{sym, ap, ◌∙◌, vec_items}
-use Rattle.sha256.specs.Sha256.{sha256}
-use Rattle.sha256.specs.Sha256Proofs.{sha256_hashing}
-use Rattle.sha3.specs.Sha3.{«sha3_256»}
-use Rattle.sha3.specs.Sha3Proofs.{«sha3_hashing»}
-use Rattle.hash_challenger.specs.Holds.{held_value}
+use Rattle.std.proofs.Common.{ap, ◌∙◌}
+use Rattle.hashers.specs.Choice.{digest_of, hashing_of}
+use Rattle.hash_challenger.specs.Holds.{held_value, make}
 use Rattle.hash_challenger.specs.Meaning.{hash_transcript}
 use Rattle.played.specs.Voices.{hash_voice, serial_voice}
-use Rattle.parts.specs.Scripts.{serial_made_over, serial_hash_made_over}
-use Rattle.parts.proofs.Telling.{told_held, written_of}
+use Rattle.parts.specs.Scripts.{serial_hash_made_over}
+use Rattle.parts.proofs.Telling.{told_is, written_of}
 use Rattle.parts.proofs.begin_serial_hash_in.Goals as goal
 
-pub returns-in-Sha256 : goal.returns-in-Sha256
-unfolding serial_made_over
-returns-in-Sha256 g c =
+pub returns : goal.returns
+unfolding serial_hash_made_over
+returns g c =
     written_of _ _ _ _ _ _ _
-    (told_held (serial_voice g.row.ORDER (hash_transcript sha256 sha256_hashing) (hash_voice sha256 sha256_hashing)) (λ s. held_value s.inner) _ _ _ c.make_serial_sha256.ensures ∙ ap (serial_made_over sha256 sha256_hashing g.row.ORDER) c.as_slice-initial.ensures.value
-    ∙ ap (λ h. serial_hash_made_over g.row.ORDER (h, vec_items c.args.asked.now.bytes)) (sym c.in-Sha256.is)) c.begin_or_refuse.ensures
-
-pub returns-in-Sha3_256 : goal.returns-in-Sha3_256
-unfolding serial_made_over
-returns-in-Sha3_256 g c =
-    written_of _ _ _ _ _ _ _
-    (told_held (serial_voice g.row.ORDER (hash_transcript «sha3_256» «sha3_hashing») (hash_voice «sha3_256» «sha3_hashing»)) (λ s. held_value s.inner) _ _ _ c.make_serial_sha3.ensures ∙ ap (serial_made_over «sha3_256» «sha3_hashing» g.row.ORDER) c.as_slice-initial.ensures.value
-    ∙ ap (λ h. serial_hash_made_over g.row.ORDER (h, vec_items c.args.asked.now.bytes)) (sym c.in-Sha3_256.is)) c.begin_or_refuse-in-Sha3_256.ensures
+    (told_is (λ h. serial_voice g.row.ORDER (hash_transcript (digest_of h) (hashing_of h)) (hash_voice (digest_of h) (hashing_of h))) (λ s. make s.inner) (λ s. held_value s.inner) (λ s. make s.inner) _ _ _ _ c.make_serial_hash.ensures
+    ∙ ap (λ bytes. serial_hash_made_over g.row.ORDER (c.args.asked.now.hasher, bytes)) c.as_slice-initial.ensures.value)
+    c.begin_or_refuse.ensures

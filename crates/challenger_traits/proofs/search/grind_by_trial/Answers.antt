@@ -3,7 +3,7 @@ use Rattle.std.specs.Result.{result_unwrap_or}
 use Rattle.refusal.specs.declared.Refusal.{Refusal}
 use Rattle.challenger_traits.specs.Meaning.{reply}
 use Rattle.challenger_traits.specs.Grinding.{at_make, says_yes, check_of, accepts}
-use Rattle.challenger_traits.specs.GrindingProofs.{grind_found, grind_spent}
+use Rattle.challenger_traits.specs.GrindingProofs.{grind_found, grind_spent, ground-passes}
 use Rattle.challenger_traits.proofs.Checks.{does_by, asked, ground_by}
 use Rattle.challenger_traits.proofs.search.grind_by_trial.Goals as goal
 
@@ -28,6 +28,7 @@ returns-then-unwrap_or g c =
     let e = is ∙ ap (reply _) (sym (did.state ∙ ap (λ r. r.left) place)) in
     record {
       does = does_by e (did.same_make ∙ ap t.make c.loop-w.invariant.0);
+      passes = ground-passes (mean k) h c.args.bits c.args.budget e;
       least = ground_by (mean k) h c.args.bits c.args.budget e;
     }
 

@@ -7,6 +7,8 @@ use Rattle.hash_challenger.proofs.HashChallengerByteGrindingChallenger.find_witn
 
 abbrev pub invariant-loop-candidate : goal.invariant-loop-candidate
 invariant-loop-candidate g l =
-    let m = hash_transcript g.H.CryptographicHasher.digest g.H.CryptographicHasher.hashing in
+    let t = g.H.CryptographicHasher in
+    let s = l.initial.self.hasher in
+    let m = hash_transcript (t.digest s) (t.hashing s) in
     let h = held_value l.initial.self in
     (front l.prepared ≡ h.input) × NonePass m h l.candidates l.mask l.candidate

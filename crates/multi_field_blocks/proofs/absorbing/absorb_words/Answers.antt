@@ -1,4 +1,4 @@
-use Rattle.std.proofs.Common.{◌≡◌, ◌*◌, length, drop, sym, subst, ap, ◌∙◌, arith, lit<, lit≤}
+use Rattle.std.proofs.Common.{◌≡◌, ◌*◌, ◌<◌, ◌≤◌, length, drop, sym, subst, ap, ◌∙◌, rules, arith, lit<, lit≤}
 use Rattle.std.specs.Slice.Iter.{chunks_rest, chunks_size}
 use Rattle.std.proofs.lemmas.List.{length_push}
 use Rattle.buffer.specs.Items.{items}
@@ -6,7 +6,7 @@ use Rattle.permutation.specs.Rows.{HasOnlyCodes}
 use Rattle.permutation.specs.RowsProofs.{all_codes-codes}
 use Rattle.sponge.specs.Sponge.{block_turn}
 use Rattle.sponge.specs.SpongeHeld.{held_value, make_meaning}
-use Rattle.sponge.proofs.Turning.{rate_small}
+use Rattle.sponge.proofs.Turning.{rate_small, length_code}
 use Rattle.packing.specs.PackingProofs.{group-length, group-codes}
 use Rattle.packing.proofs.Groups.{piece_more, piece_end}
 use Rattle.multi_field_blocks.specs.Blocks.{after_groups}
@@ -26,6 +26,17 @@ from_slice-requires g c =
         (lit≤ tt, subst (HasOnlyCodes g.row.ORDER) (sym t.0) (group-codes s.rate s.some g.row.ORDER ws i (all_codes-codes g.row.ORDER ws c.requires.codes))),
       ),
     )
+
+pub absorb-requires : goal.absorb-requires
+absorb-requires g c =
+    let s = c.args.sponge.now in
+    let ws = c.args.words.now in
+    let l = c.loop-group in
+    let i = length l.yielded in
+    let t = piece_more s.rate s.some ws i _ _ c.in-Some.group.now (chunks_rest c.next.new.self) l.invariant.2 l.invariant.3 c.in-Some.ensures.steps.1 in
+    let few : length c.in-Some.group.now ≤ s.rate = omega (arith, ap length t.0, group-length s.rate s.some ws i) in
+    let code : length c.in-Some.group.now < g.row.ORDER = length_code s (length c.in-Some.group.now) few in
+    search rules
 
 pub loop-group-preserved : goal.loop-group-preserved
 loop-group-preserved g c =

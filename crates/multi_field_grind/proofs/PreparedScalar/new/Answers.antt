@@ -20,7 +20,7 @@ new-requires g c =
     let words = items c.words_before-words.result in
     let e = c.words_before-words.ensures.value in
     let fits : length words ≤ s.rate = words-few n g.ORDER.fits.fits s.rate (xs ++ (0 ∷ [])) words e (omega (arith, c.requires.room, length-append xs (0 ∷ []))) in
-    let tag : c.len.result + 1 ≤ 255 = omega (arith, c.len.ensures, c.requires.room, c.requires.batch, fits, rate_small s) in
+    let tag : c.len.result + 1 < g.row.ORDER = omega (arith, c.len.ensures, c.requires.room, c.requires.batch, fits, rate_small s, g.D.Domain.arithmetic.low) in
     search rules
 
 pub nonzero_rem-len : goal.nonzero_rem-len

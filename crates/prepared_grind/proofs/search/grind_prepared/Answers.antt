@@ -1,7 +1,7 @@
 use Rattle.std.proofs.Common.{◌≡◌, ◌%◌, ◌^◌, ◌≤◌, true, eqb, sym, ap, ◌∙◌, arith, below_more}
 use Rattle.challenger_traits.specs.Meaning.{reply}
 use Rattle.challenger_traits.specs.Grinding.{at_make, check_of, accepts}
-use Rattle.challenger_traits.specs.GrindingProofs.{grind_found, grind_spent}
+use Rattle.challenger_traits.specs.GrindingProofs.{grind_found, grind_spent, ground-passes}
 use Rattle.challenger_traits.proofs.Checks.{does_by, asked, ground_by}
 use Rattle.prepared_grind.proofs.search.grind_prepared.Goals as goal
 
@@ -30,7 +30,11 @@ returns-then-passes g c =
     let did = c.check_by_parts.ensures.does in
     let left = did.state ∙ ap (λ x. (check_of (mean (t.make x)) (t.held_value x) c.args.bits w).left) inv.0 in
     let e = grind_found (mean k) h c.args.bits c.args.budget q (omega arith) within w c.loop-w-test.true inv.1 holds ∙ ap (reply _) (sym left) in
-    record { does = does_by e (did.same_make ∙ ap t.make inv.0); least = ground_by (mean k) h c.args.bits c.args.budget e }
+    record {
+      does = does_by e (did.same_make ∙ ap t.make inv.0);
+      passes = ground-passes (mean k) h c.args.bits c.args.budget e;
+      least = ground_by (mean k) h c.args.bits c.args.budget e;
+    }
 
 pub returns : goal.returns
 returns g c =
@@ -42,4 +46,4 @@ returns g c =
     let q = asked c.args.bits c.order-order.ensures c.if-not-bits_fit.ensures in
     let within : c.args.budget ≤ m.drawing.order = omega (arith, c.order-order.ensures) in
     let e = grind_spent m h c.args.bits c.args.budget q (omega arith) within (λ k lt. inv.1 k (omega arith)) ∙ ap (reply _) (sym (ap t.held_value inv.0)) in
-    record { does = does_by e (ap t.make inv.0); least = ground_by m h c.args.bits c.args.budget e }
+    record { does = does_by e (ap t.make inv.0); passes = tt; least = ground_by m h c.args.bits c.args.budget e }

@@ -1,12 +1,12 @@
 use Rattle.std.proofs.Common.{◌≡◌, ℕ, ◌≤◌, ◌⊎◌, List, [], ◌∷◌, length, take, set, sym, refl, ap, ◌∙◌, inl, inr, arith}
 use Rattle.std.proofs.lemmas.List.{drop_all, drop-set-lt}
 use Rattle.refusal.specs.declared.Refusal.{Refusal}
-use Rattle.refusal.specs.declared.Refusal.TheVariants.{Orders, Batch, NoDraw}
+use Rattle.refusal.specs.declared.Refusal.TheVariants.{FieldOrderNotIncreasing, AbsorbLengthTagOverflow, ResamplingError}
 use Rattle.refusal.specs.Numbers.{values}
 use Rattle.refusal.proofs.Refusal.values.Goals as goal
 
 -- the cases that carry two values
-two_values : (s : Refusal) (a b : ℕ) → (s ≡ Orders a b) ⊎ ((s ≡ Batch a b) ⊎ (s ≡ NoDraw a b)) → a ∷ b ∷ [] ≡ values s
+two_values : (s : Refusal) (a b : ℕ) → (s ≡ FieldOrderNotIncreasing a b) ⊎ ((s ≡ AbsorbLengthTagOverflow a b) ⊎ (s ≡ ResamplingError a b)) → a ∷ b ∷ [] ≡ values s
 two_values s a b (inl e) = sym (ap values e)
 two_values s a b (inr (inl e)) = sym (ap values e)
 two_values s a b (inr (inr e)) = sym (ap values e)
@@ -15,9 +15,9 @@ first-set : (xs : List ℕ) (a : ℕ) → 1 ≤ length xs → take 1 (set xs 0 a
 first-set [] a h = absurd (omega arith)
 first-set (x ∷ xs) a h = refl
 
-pub returns-in-Orders : goal.returns-in-Orders
-returns-in-Orders c =
-    let e = two_values c.args.self.now c.in-Orders.a c.in-Orders.b c.in-Orders.is in
+pub returns-in-FieldOrderNotIncreasing : goal.returns-in-FieldOrderNotIncreasing
+returns-in-FieldOrderNotIncreasing c =
+    let e = two_values c.args.self.now c.in-FieldOrderNotIncreasing.a c.in-FieldOrderNotIncreasing.b c.in-FieldOrderNotIncreasing.is in
     record { count = ap length e; front = e; rest = sym (drop_all 2 c.args.out.now (omega arith)) }
 
 pub returns-in-NoWitness : goal.returns-in-NoWitness

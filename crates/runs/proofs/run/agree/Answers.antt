@@ -1,10 +1,9 @@
-use Rattle.std.proofs.Common.{sym, ◌∙◌}
 use Rattle.runs.proofs.Agreement.{agreement}
 use Rattle.runs.proofs.run.agree.Goals as goal
 
-pub returns-clause-rehearsed : goal.returns-clause-rehearsed
-returns-clause-rehearsed g c =
-    let proves = c.prove_run.ensures.run in
-    let verifies = c.verify_run.ensures.run in
-    let agree = agreement _ _ _ _ _ _ _ _ _ (g.P.CanTakeCalls.stands _) proves verifies in
-    record { proves = proves; verifies = verifies; agrees = λ make p v. agree make.rules (p ∙ make.fresh_value ∙ sym v); agrees_from = agree }
+pub returns-clause-agreement : goal.returns-clause-agreement
+returns-clause-agreement g c one_make began =
+    let k = g.P.Holding.make c.args.prover.now in
+    let l = g.V.Holding.make c.args.verifier.now in
+    agreement (g.P.Holding.can_be_held k) (g.P.CanTakeCalls.rule k) (g.V.CanTakeCalls.rule l) (g.P.CanTakeCalls.stands k) (g.met.P.MadeLike.same_rules k l one_make)
+    _ _ _ _ _ _ _ c.prove_run.ensures.run c.prove_run.ensures.holds c.verify_run.ensures.run began

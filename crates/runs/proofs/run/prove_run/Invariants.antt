@@ -1,5 +1,5 @@
 use Rattle.std.proofs.Common.{◌≡◌, ◌++◌, length, take, drop}
-use Rattle.runs.specs.Runs.{answers, value_after}
+use Rattle.runs.specs.Runs.{answers, value_after, CanBeHeldAlong}
 use Rattle.runs.proofs.run.prove_run.Given as goal
 
 abbrev pub invariant-loop-i : goal.invariant-loop-i
@@ -8,7 +8,10 @@ invariant-loop-i g l =
     let k = t.make l.initial.c in
     let rule = g.C.CanTakeCalls.rule k in
     let h = t.held_value l.initial.c in
-    (length l.said ≡ length l.calls)
-    × (take l.i l.said ++ answers rule (t.held_value l.c) (drop l.i l.calls) ≡ answers rule h l.calls)
-    × (value_after rule (t.held_value l.c) (drop l.i l.calls) ≡ value_after rule h l.calls)
-    × (t.make l.c ≡ k)
+    record {
+      places : length l.said ≡ length l.calls;
+      said : take l.i l.said ++ answers rule (t.held_value l.c) (drop l.i l.calls) ≡ answers rule h l.calls;
+      left : value_after rule (t.held_value l.c) (drop l.i l.calls) ≡ value_after rule h l.calls;
+      make : t.make l.c ≡ k;
+      along : CanBeHeldAlong rule (t.can_be_held k) (t.held_value l.c) (drop l.i l.calls) → CanBeHeldAlong rule (t.can_be_held k) h l.calls;
+    }

@@ -1,4 +1,4 @@
-use Rattle.std.proofs.Common.{◌≡◌, ◌≤◌, ◌++◌, take, drop, length}
+use Rattle.std.proofs.Common.{◌≡◌, ◌+◌, ◌≤◌, ◌++◌, take, drop, length}
 use Rattle.runs.specs.Runs.{answers, value_after, repeated_calls}
 use Rattle.runs.proofs.run.verify_run.Given as goal
 
@@ -11,6 +11,7 @@ invariant-loop-call g l =
     let i = length l.yielded in
     let left = repeated_calls (drop i l.calls) (drop i l.proved) in
     (l.n ≤ i)
+    × (l.n + length left ≡ length (repeated_calls l.calls l.proved))
     × (take l.n l.said ++ answers rule (t.held_value l.c) left ≡ answers rule h (repeated_calls l.calls l.proved))
     × (value_after rule (t.held_value l.c) left ≡ value_after rule h (repeated_calls l.calls l.proved))
     × (t.make l.c ≡ k)

@@ -17,4 +17,4 @@ returns g c =
     let inv = c.loop-value.invariant in
     let h = g.C.Holding.held_value c.loop-value.c in
     let is = ap (λ k. g.C.CanDraw.draw_of k h) (sym inv.1) ∙ did drew in
-    record { does = does_by (sym inv.0 ∙ draw_accept _ c.args.bound h _ _ is c.loop-value.rest c.if-value-bound.true) (drew.same_make ∙ inv.1) }
+    record { does = does_by (sym inv.0 ∙ draw_accept _ c.args.bound h _ _ is c.loop-value.rest c.if-value-bound.true) (drew.same_make ∙ inv.1); below = c.if-value-bound.true }

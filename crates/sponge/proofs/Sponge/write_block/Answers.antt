@@ -2,7 +2,7 @@ use Rattle.std.proofs.Common.{List, set, ap, ◌∙◌}
 use Rattle.buffer.specs.Items.{items}
 use Rattle.sponge.specs.Sponge.{sponge_state}
 use Rattle.sponge.specs.SpongeHeld.{make_meaning}
-use Rattle.sponge.proofs.Absorbing.{row_with_block_is}
+use Rattle.sponge.specs.AbsorbingProofs.{row_with_block_is}
 use Rattle.sponge.proofs.Turning.{rate_inside}
 use Rattle.sponge.proofs.Sponge.write_block.Goals as goal
 

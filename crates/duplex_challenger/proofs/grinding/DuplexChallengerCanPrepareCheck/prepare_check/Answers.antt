@@ -1,13 +1,23 @@
-use Rattle.std.proofs.Common.{◌≡◌, ℕ, List, ◌++◌, [], ◌∷◌, ◌%◌, ◌^◌, eqb, length, sym, ap, ◌∙◌, arith}
+use Rattle.std.proofs.Common.{◌≡◌, ℕ, List, ◌++◌, [], ◌∷◌, ◌+◌, ◌%◌, ◌^◌, ◌<◌, ◌≤◌, eqb, length, sym, ap, ◌∙◌, rules, arith}
 use Rattle.std.proofs.lemmas.List.{length-append}
 use Rattle.buffer.specs.Items.{items}
 use Rattle.sponge.specs.Sponge.{block_turn, last_output}
+use Rattle.sponge.proofs.Turning.{length_code}
 use Rattle.prepared_grind.specs.Tests.{with_last}
 use Rattle.prepared_grind.proofs.Accepted.{accepts_is}
 use Rattle.duplex_challenger.specs.Rules.{after_code, sample_of}
 use Rattle.duplex_challenger.specs.Holds.{held_value, make_meaning}
 use Rattle.duplex_challenger.proofs.Prepared.{drawn_said, with_witness, full}
 use Rattle.duplex_challenger.proofs.grinding.DuplexChallengerCanPrepareCheck.prepare_check.Goals as goal
+
+pub new-requires : goal.new-requires
+new-requires g c =
+    let s = c.args.self.now in
+    let more : length (items c.push.new.self) ≡ length (items s.pending) + 1 = ap length c.push.ensures ∙ length-append (items s.pending) (0 ∷ []) in
+    let some : 0 < length (items c.push.new.self) = omega (arith, more) in
+    let room : length (items c.push.new.self) ≤ s.sponge.rate = omega (arith, more, s.room) in
+    let code : c.len.result < g.row.ORDER = length_code s.sponge c.len.result (omega (arith, c.len.ensures, room, s.room)) in
+    search rules
 
 pub returns : goal.returns
 returns g c = λ b q some w lt.

@@ -1,5 +1,6 @@
 use Rattle.std.proofs.Common.{◌+◌, Ok, sym, refl, ap, ◌∙◌, arith}
 use Rattle.challenger_traits.specs.Meaning.{reply}
+use Rattle.challenger_traits.specs.GrindingProofs.{ground-passes}
 use Rattle.challenger_traits.proofs.Checks.{does_by, ground_by}
 use Rattle.serializing_challenger.specs.Rules.{means}
 use Rattle.serializing_challenger.proofs.Search.{searched, unfound, sought_there}
@@ -17,7 +18,7 @@ returns-in_default g c =
     let there = sought_there M k (g.T.Holding.make c.drop_byte.new.transcript) h (g.T.Holding.held_value c.drop_byte.new.transcript) b n c.power.result dropped.kept dropped.left c.power.ensures in
     let e = unfound g.row.ORDER (M k) h b (sym c.if-not-bits_fit.ensures) (omega arith) dropped.roomy n c.if-budget.false c.args.self.now.code.small
     (sym there ∙ sym c.find_witness.ensures ∙ c.in_default.is) in
-    record { does = does_by e refl; least = ground_by (means g.row.ORDER (M k)) h b n e }
+    record { does = does_by e refl; passes = tt; least = ground_by (means g.row.ORDER (M k)) h b n e }
 
 pub returns : goal.returns
 returns g c =
@@ -33,4 +34,5 @@ returns g c =
     let is = searched g.row.ORDER (M k) h b (sym c.if-not-bits_fit.ensures) (omega arith) dropped.roomy n c.if-budget.false c.args.self.now.code.small
     c.in-Some.witness (sym there ∙ sym c.find_witness.ensures ∙ c.in-Some.is) in
     let e = is.1 ∙ ap (reply (Ok (c.in-Some.witness, c.in-Some.witness + 1))) (sym checked.state) in
-    record { does = does_by e checked.same_make; least = ground_by (means g.row.ORDER (M k)) h b n e }
+    let m = means g.row.ORDER (M k) in
+    record { does = does_by e checked.same_make; passes = ground-passes m h b n e; least = ground_by m h b n e }

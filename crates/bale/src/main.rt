@@ -1,0 +1,58 @@
+//! A bale's transcript by library calls alone: the prover's answers beside the verifier's, and a row drawn by both.
+#![tactic(auto)]
+
+ghost use Rattle.std.specs.Prelude.{◌≡◌, Some, IfOk};
+
+use anyhow::Result;
+use challengers::{Answer, Call, Ladder, Permutation};
+use uses::{Session, play_both, rehearse_row};
+
+/// The commitment to the bale's eject log.
+const COMMITMENT: [u64; 8] = [
+    1482915306, 27781934, 903345871, 1720036412, 611290045, 1999001234, 340781256, 1187654321,
+];
+
+/// The purity printed on the bale, 9973 of 10000.
+const PURITY: [u64; 2] = [9973, 10000];
+
+/// The permutation of the bale's challenger.
+fn permutation() -> Result<Permutation> {
+    Ok(Permutation::Ladder(Ladder::new(8)?))
+}
+
+/// A row of the log, drawn after a witness: the verifier draws the prover's.
+fn session() -> Result<Session>
+    ensures { IfOk result (λ session. session.again ≡ Some session.row) }
+{
+    let session = rehearse_row(permutation()?, &PURITY)?;
+    Ok(session)
+}
+
+fn main(rt: HostRuntime) -> Result<()> {
+    let calls = [
+        Call::ObserveDigest(&COMMITMENT),
+        Call::Observe(&PURITY),
+        Call::Grind(9, 100000),
+        Call::Sample,
+        Call::Sample,
+        Call::SampleBits(10),
+        Call::SampleBits(10),
+        Call::SampleBits(10),
+        Call::UniformBits(12, 64),
+        Call::Grind(20, 50),
+    ];
+    let mut proved = [Answer::Absent; 10];
+    let mut said = [Answer::Absent; 10];
+    let rehearsal = play_both(permutation()?, &calls, &mut proved, &mut said)?;
+    for answer in &proved {
+        println!(rt; "prover    {answer}")?;
+    }
+    for answer in said.iter().take(rehearsal.count.unwrap_or(0)) {
+        println!(rt; "verifier  {answer}")?;
+    }
+    let session = session()?;
+    println!(rt; "witness   {}", session.witness)?;
+    println!(rt; "row       {}", session.row)?;
+    println!(rt; "again     {}", session.again == Some(session.row))?;
+    Ok(())
+}

@@ -1,0 +1,5 @@
+pub use Rattle.challengers.specs.Meaning
+pub use Rattle.challengers.specs.Grinding
+pub mod Witness
+pub mod Challenges
+pub mod BabyBear

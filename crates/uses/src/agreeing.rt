@@ -1,0 +1,28 @@
+// Calls as values, played on both ends.
+ghost use Rattle.std.specs.Prelude.{IsOk, IfOk};
+ghost use Rattle.challengers.specs.SpongeHeld.{parameters_of};
+ghost use Rattle.challengers.specs.DuplexRules.{fresh_value};
+ghost use Rattle.challengers.specs.DuplexHolds.{make, held_value};
+ghost use Rattle.challengers.specs.DuplexCalls.{rule};
+ghost use Rattle.challengers.specs.Ends.{Agreed, slices};
+ghost use Rattle.uses.specs.BabyBear.{baby_bear_sponge};
+
+use challengers::{
+    Answer, BABY_BEAR_ORDER, BabyBear, BabyBearDuplex, Call, Permutation, Refusal, Rehearsal,
+    agree_duplex,
+};
+
+/// Plays the calls on a prover and a verifier: each call is answered alike, and the check of each witness that was found says yes.
+pub fn play_both(
+    permutation: Permutation,
+    calls: &[Call],
+    proved: &mut [Answer],
+    said: &mut [Answer],
+) -> Result<Rehearsal<BabyBearDuplex<Permutation>>, Refusal>
+    ensures made { IsOk result }
+    ensures agreed { IfOk result (Agreed make held_value (λ m. rule (baby_bear_sponge m))
+        (λ m. fresh_value (baby_bear_sponge m)) (parameters_of 16 8 permutation) calls.now
+        (slices proved.old said.old) (slices proved.new said.new)) }
+{
+    agree_duplex::<BabyBear, BABY_BEAR_ORDER>(16, 8, permutation, calls, proved, said)
+}

@@ -1,0 +1,75 @@
+// A prover and a verifier written apart: the verifier draws what the prover drew.
+ghost use Rattle.std.specs.Prelude.{◌≡◌, Some, Ok, IfOk};
+ghost use Rattle.challengers.specs.Meaning.{Does, reply};
+ghost use Rattle.challengers.specs.Grinding.{at_make};
+ghost use Rattle.challengers.specs.SpongeHeld.{parameters_of};
+ghost use Rattle.challengers.specs.DuplexRules.{means, fresh_value};
+ghost use Rattle.uses.specs.BabyBear.{baby_bear_sponge};
+ghost use Rattle.uses.specs.Witness.{checked_row};
+
+use challengers::{
+    BABY_BEAR_ORDER, BabyBear, CanSampleBits, GrindingChallenger, Permutation, Refusal, duplex_ends,
+};
+
+/// The witness that a prover found, the row that it drew after it, and what the verifier drew.
+#[derive(Clone, Copy, PartialEq, Eq, Debug)]
+pub struct Session {
+    pub witness: u64,
+    pub row: u64,
+    pub again: Option<u64>,
+}
+
+/// The prover: observes the numbers, grinds, and draws a row of a log of 2^rows.
+pub fn prove_row<C: GrindingChallenger>(
+    c: &mut C,
+    numbers: &[u64],
+    bits: u64,
+    budget: u64,
+    rows: u64,
+) -> Result<(u64, u64), Refusal>
+    ensures passes { IfOk result (λ drawn. checked_row
+        (at_make C.after_observe C.drawing C.check_start (C.make c.old)) (C.held_value c.old)
+        numbers.now bits drawn.0 rows ≡ reply (Ok (Some drawn.1)) (C.held_value c.new)) }
+    ensures make { C.make c.new ≡ C.make c.old }
+{
+    c.observe(numbers)?;
+    let (witness, _) = c.grind(bits, budget)?;
+    Ok((witness, c.sample_bits(rows)?))
+}
+
+/// The verifier: observes the numbers, checks the witness, and draws a row of the log if it passes.
+pub fn verify_row<C: GrindingChallenger>(
+    c: &mut C,
+    numbers: &[u64],
+    bits: u64,
+    witness: u64,
+    rows: u64,
+) -> Result<Option<u64>, Refusal>
+    ensures does { Does C.make C.held_value c.old c.new result (checked_row
+        (at_make C.after_observe C.drawing C.check_start (C.make c.old)) (C.held_value c.old)
+        numbers.now bits witness rows) }
+{
+    c.observe(numbers)?;
+    if !c.check_witness(bits, witness)? {
+        return Ok(None);
+    }
+    Ok(Some(c.sample_bits(rows)?))
+}
+
+/// Both, each on a challenger of its own: the witness passes, and the verifier draws the prover's row.
+pub fn rehearse_row(permutation: Permutation, numbers: &[u64]) -> Result<Session, Refusal>
+    ensures again { IfOk result (λ session. session.again ≡ Some session.row) }
+    ensures drawn { IfOk result (λ session. (checked_row
+        (means (baby_bear_sponge (parameters_of 16 8 permutation)))
+        (fresh_value (baby_bear_sponge (parameters_of 16 8 permutation))) numbers.now 8
+        session.witness 10).said ≡ Ok session.again) }
+{
+    let mut ends = duplex_ends::<BabyBear, BABY_BEAR_ORDER>(16, 8, permutation)?;
+    let (witness, row) = prove_row(&mut ends.prover, numbers, 8, 10000, 10)?;
+    let again = verify_row(&mut ends.verifier, numbers, 8, witness, 10)?;
+    Ok(Session {
+        witness,
+        row,
+        again,
+    })
+}

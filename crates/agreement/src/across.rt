@@ -4,20 +4,22 @@ ghost use Rattle.refusal.specs.Made.{MadeUnless};
 ghost use Rattle.sha256.specs.Sha256.{sha256};
 ghost use Rattle.sponge.specs.SpongeHeld.{shape_no};
 ghost use Rattle.duplex_challenger.specs.Rules.{fresh_value as duplex_fresh};
-ghost use Rattle.duplex_challenger.specs.Holds.{held_value as duplex_held};
+ghost use Rattle.duplex_challenger.specs.Holds.{make_meaning, held_value as duplex_held};
 ghost use Rattle.duplex_challenger.specs.Calls.{rule as duplex_rule};
 ghost use Rattle.hash_state.specs.Rules.{initial_no, fresh_value as hash_fresh};
-ghost use Rattle.hash_challenger.specs.Holds.{held_value as hash_held};
+ghost use Rattle.hash_challenger.specs.Holds.{make as hash_make, held_value as hash_held};
 ghost use Rattle.hash_challenger.specs.Calls.{rule as hash_rule};
-ghost use Rattle.agreement.specs.Ends.{AgreedAcross, slices, sponge_make};
+ghost use Rattle.hashers.specs.Choice.{digest_of};
+ghost use Rattle.agreement.specs.Ends.{AgreedAcross, slices, SlicesStay, sponge_make};
 
+use crate::ends::play;
 use domain::Domain;
 use duplex_challenger::DuplexChallenger;
 use hash_challenger::HashChallenger;
 use hashers::Hasher;
 use permutation::{Mirror, Permutation};
 use refusal::Refusal;
-use runs::{Answer, Call, agree};
+use runs::{Answer, Call};
 use sha256::Sha256;
 
 /// A prover's and a verifier's challenger, perhaps of two types, after calls were played on them, and how many answers the verifier got, as in `Rehearsal`.
@@ -39,10 +41,11 @@ pub fn agree_across_permutations<D: Domain<ORDER> + Copy, const ORDER: u64>(
     Across<DuplexChallenger<D, Mirror, ORDER>, DuplexChallenger<D, Permutation, ORDER>>,
     Refusal,
 >
-    ensures { MadeUnless (shape_no width rate) (AgreedAcross duplex_held duplex_held
-        (duplex_rule (sponge_make D.arithmetic reverse width rate))
-        (duplex_fresh (sponge_make D.arithmetic reverse width rate)) calls.now
-        (slices proved.old said.old) (slices proved.new said.new)) result }
+    ensures agreed { MadeUnless (shape_no width rate) (AgreedAcross make_meaning make_meaning
+        duplex_held duplex_held duplex_rule duplex_fresh
+        (sponge_make D.arithmetic reverse width rate) calls.now (slices proved.old said.old)
+        (slices proved.new said.new)) result }
+    ensures kept { SlicesStay (slices proved.old said.old) (slices proved.new said.new) result }
 {
     let mut prover: DuplexChallenger<D, Mirror, ORDER> = DuplexChallenger::new(
         width, rate, Mirror,
@@ -52,7 +55,7 @@ pub fn agree_across_permutations<D: Domain<ORDER> + Copy, const ORDER: u64>(
         rate,
         Permutation::Mirror(Mirror),
     )?;
-    let count = agree(&mut prover, &mut verifier, calls, proved, said);
+    let count = play(&mut prover, &mut verifier, calls, proved, said);
     Ok(Across {
         prover,
         verifier,
@@ -67,13 +70,15 @@ pub fn agree_across_hashers(
     proved: &mut [Answer],
     said: &mut [Answer],
 ) -> Result<Across<HashChallenger<Sha256, 32>, HashChallenger<Hasher, 32>>, Refusal>
-    ensures { MadeUnless (initial_no initial.now) (AgreedAcross hash_held hash_held
-        (hash_rule sha256) (hash_fresh initial.now) calls.now (slices proved.old said.old)
+    ensures agreed { MadeUnless (initial_no initial.now) (AgreedAcross (λ c. sha256)
+        (λ c. digest_of (hash_make c)) hash_held hash_held hash_rule
+        (λ digest. hash_fresh initial.now) sha256 calls.now (slices proved.old said.old)
         (slices proved.new said.new)) result }
+    ensures kept { SlicesStay (slices proved.old said.old) (slices proved.new said.new) result }
 {
     let mut prover: HashChallenger<Sha256, 32> = HashChallenger::new(initial, Sha256)?;
     let mut verifier: HashChallenger<Hasher, 32> = HashChallenger::new(initial, Hasher::Sha256)?;
-    let count = agree(&mut prover, &mut verifier, calls, proved, said);
+    let count = play(&mut prover, &mut verifier, calls, proved, said);
     Ok(Across {
         prover,
         verifier,

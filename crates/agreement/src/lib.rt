@@ -9,11 +9,11 @@ mod multi_field;
 mod serializing;
 
 pub use across::{Across, agree_across_hashers, agree_across_permutations};
-pub use duplex::{agree_duplex, duplex_ends};
+pub use duplex::{agree_duplex, agree_duplex_of_one_make, duplex_ends};
 pub use ends::{Ends, Rehearsal};
-pub use hash::{agree_hash, hash_ends};
-pub use multi_field::{agree_multi_field, multi_field_ends};
+pub use hash::{agree_hash, agree_hash_of_one_make, hash_ends};
+pub use multi_field::{agree_multi_field, agree_multi_field_of_one_make, multi_field_ends};
 pub use serializing::{
-    ByteDuplex, agree_serializing_duplex, agree_serializing_hash, serializing_duplex_ends,
-    serializing_hash_ends,
+    ByteDuplex, agree_serializing_duplex, agree_serializing_hash, agree_serializing_of_one_make,
+    serializing_duplex_ends, serializing_hash_ends,
 };

@@ -2,6 +2,7 @@
 ghost use Rattle.std.specs.Prelude.{◌≡◌};
 ghost use Rattle.refusal.specs.Made.{MadeUnless};
 ghost use Rattle.domain.specs.Modular.{bytes};
+ghost use Rattle.byte_transcript.specs.SameTranscript.{SameTranscript};
 ghost use Rattle.sponge.specs.SpongeHeld.{shape_no, parameters_of, meaning_of_make};
 ghost use Rattle.permutation.specs.Choice.{image as image_of};
 ghost use Rattle.duplex_challenger.specs.Rules.{fresh_value as duplex_fresh};
@@ -15,16 +16,20 @@ ghost use Rattle.hash_challenger.specs.Meaning.{hash_transcript};
 ghost use Rattle.hashers.specs.Choice.{digest_of, hashing_of};
 ghost use Rattle.duplex_challenger.specs.Bytes.{byte_transcript};
 ghost use Rattle.serializing_challenger.specs.Calls.{rule};
-ghost use Rattle.agreement.specs.Ends.{Agreed, or_above, slices, SlicesStay};
+ghost use Rattle.agreement.specs.Ends.{Agreed, AgreeIfPlayed, PlayedOrNot, or_above, slices};
+ghost use Rattle.agreement.specs.Ends.{SlicesStay};
 
+use crate::ends::play;
 use crate::{Ends, Rehearsal, duplex_ends, hash_ends};
+use byte_transcript::ByteGrindingChallenger;
+use challenger_traits::Holding;
 use domain::{Bytes, Domain};
 use duplex_challenger::DuplexChallenger;
 use hash_challenger::HashChallenger;
 use hashers::Hasher;
 use permutation::Permutation;
 use refusal::Refusal;
-use runs::{Answer, Call, agree};
+use runs::{Answer, Call};
 use serializing_challenger::SerializingChallenger32;
 
 /// The duplex challenger over bytes.
@@ -64,7 +69,7 @@ pub fn agree_serializing_duplex<D: Domain<ORDER> + Copy, const ORDER: u64>(
     ensures kept { SlicesStay (slices proved.old said.old) (slices proved.new said.new) result }
 {
     let mut ends = serializing_duplex_ends::<D, ORDER>(width, rate, permutation)?;
-    let count = agree(&mut ends.prover, &mut ends.verifier, calls, proved, said);
+    let count = play(&mut ends.prover, &mut ends.verifier, calls, proved, said);
     Ok(Rehearsal { ends, count })
 }
 
@@ -99,6 +104,37 @@ pub fn agree_serializing_hash<D: Domain<ORDER> + Copy, const ORDER: u64>(
     ensures kept { SlicesStay (slices proved.old said.old) (slices proved.new said.new) result }
 {
     let mut ends = serializing_hash_ends::<D, ORDER>(initial, hasher)?;
-    let count = agree(&mut ends.prover, &mut ends.verifier, calls, proved, said);
+    let count = play(&mut ends.prover, &mut ends.verifier, calls, proved, said);
     Ok(Rehearsal { ends, count })
+}
+
+/// Plays the calls on two serializing challengers, over any transcripts.
+pub fn agree_serializing_of_one_make<
+    D: Domain<ORDER> + Copy,
+    T: ByteGrindingChallenger + Copy,
+    E: Domain<ORDER> + Copy,
+    U: ByteGrindingChallenger + Holding<Held = T::Held> + Copy,
+    const ORDER: u64,
+>(
+    prover: &mut SerializingChallenger32<D, T, ORDER>,
+    verifier: &mut SerializingChallenger32<E, U, ORDER>,
+    calls: &[Call],
+    proved: &mut [Answer],
+    said: &mut [Answer],
+) -> Option<usize>
+    ensures agreement { SameTranscript (T.meaning (T.make prover.old.inner))
+        (U.meaning (U.make verifier.old.inner))
+        → T.held_value prover.old.inner ≡ U.held_value verifier.old.inner
+        → AgreeIfPlayed (T.held_value prover.old.inner) (U.held_value verifier.old.inner)
+        (T.held_value prover.new.inner) (U.held_value verifier.new.inner) calls.now
+        (slices proved.new said.new) result }
+    ensures played { PlayedOrNot (rule ORDER (T.meaning (T.make prover.old.inner)))
+        (rule ORDER (U.meaning (U.make verifier.old.inner)))
+        (T.held_value prover.old.inner) (U.held_value verifier.old.inner)
+        (T.held_value prover.new.inner) (U.held_value verifier.new.inner) calls.now
+        (slices proved.old said.old) (slices proved.new said.new) result }
+    ensures makes { (T.make prover.new.inner ≡ T.make prover.old.inner)
+        × (U.make verifier.new.inner ≡ U.make verifier.old.inner) }
+{
+    play(prover, verifier, calls, proved, said)
 }

@@ -9,7 +9,7 @@ use Rattle.byte_transcript.specs.declared.trial.TheConstants.{MOST_CANDIDATES}
 pub record RoomLaws {Held : Type 0} (can_be_held : Held → Bool) (after_byte : Held → ℕ → Held) (after_draw : Held → Held) (room : Held → ℕ) : Type 0 where
   -- observing a byte lowers the room by at most one, so observing n bytes by at most n
   pub lowers : (h : Held) (b : ℕ) → room h ≤ room (after_byte h b) + 1
-  -- after a draw the room is at least 8: a check draws a byte first, and then the four bytes of a witness fit, as would the eight of a 64-bit one
+  -- after a draw the room is at least 8: a check draws a byte first, and then the four bytes of a witness fit
   pub room_after_draw : (h : Held) → IsTrue (can_be_held h) → 8 ≤ room (after_draw h)
 
 -- which values can be held, what observing a byte leaves, the byte drawn and what that leaves, the digest at the end, the room; with the laws

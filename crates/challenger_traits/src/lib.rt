@@ -32,5 +32,5 @@ pub trait Holding {
     ghost holds: { (c : Self) → IsTrue (can_be_held (make c) (held_value c)) };
 }
 
-/// A challenger over the codes of a domain: it observes them, and samples codes and bits.
+/// A challenger over the codes of a domain: it observes them, and samples numbers and bits. That a number sampled is a code is a promise of each challenger's own `sample`.
 pub trait FieldChallenger: CanObserve<u64> + CanSample<u64> + CanSampleBits {}

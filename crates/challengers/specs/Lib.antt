@@ -8,8 +8,14 @@ pub use Rattle.multi_field_challenger.specs.declared.held.MultiHeld
 pub use Rattle.hash_state.specs.declared.held.HashHeld
 pub use Rattle.permutation.specs.declared.choice.Permutation
 pub use Rattle.sponge.specs.declared.parameters.Parameters
+pub use Rattle.permutation.specs.declared.ladder.Ladder as LadderType
+pub use Rattle.separation.specs.declared.block.Block
+pub use Rattle.agreement.specs.declared.ends.Ends as EndsType
+pub use Rattle.agreement.specs.declared.ends.Rehearsal
+pub use Rattle.agreement.specs.declared.across.Across
 pub use Rattle.refusal.specs.Numbers
 pub use Rattle.refusal.specs.Made
+pub use Rattle.refusal.specs.Spoken as RefusalSpoken
 pub use Rattle.domain.specs.declared.orders.TheConstants as Orders
 pub use Rattle.refusal.specs.declared.limits.TheConstants as Limits
 pub use Rattle.domain.specs.Arithmetic
@@ -31,6 +37,7 @@ pub use Rattle.runs.specs.Runs
 pub use Rattle.runs.specs.Answers
 pub use Rattle.runs.specs.Interface
 pub use Rattle.runs.specs.Lent
+pub use Rattle.runs.specs.Spoken as RunsSpoken
 pub use Rattle.sampling.specs.Draws
 pub use Rattle.sampling.specs.Uniform
 pub use Rattle.code_bits.specs.CodeBits
@@ -41,6 +48,7 @@ pub use Rattle.byte_transcript.specs.SameTranscript
 pub use Rattle.hasher.specs.Hashing
 pub use Rattle.hasher.specs.SameDigests
 pub use Rattle.hashers.specs.Choice as HasherChoice
+pub use Rattle.sha256.specs.Sha256
 pub use Rattle.duplex_challenger.specs.Rules as DuplexRules
 pub use Rattle.duplex_challenger.specs.Holds as DuplexHolds
 pub use Rattle.duplex_challenger.specs.Calls as DuplexCalls

@@ -6,7 +6,6 @@ use Rattle.runs.specs.declared.answer.Answer.TheVariants.{Code, Absent}
 use Rattle.runs.specs.Answers.{as_done, as_bits, answer_reply}
 use Rattle.runs.specs.Runs.{Rule}
 use Rattle.runs.specs.Lent.{ReadsNumbers}
-use Rattle.runs.specs.LentProofs.{reads_numbers}
 use Rattle.runs.specs.Interface.{interface_rule}
 use Rattle.sponge.specs.Sponge.{SpongeMake}
 use Rattle.sampling.specs.Uniform.{uniform_of}
@@ -28,4 +27,5 @@ module _ {order : ℕ} (k : SpongeMake order) where
   rule = interface_rule (means k) own_rule
 
   pub own_reads : ReadsNumbers own_rule
-  own_reads = reads_numbers own_rule (λ h xs. refl) (λ h xs. refl) (λ h xs. refl) (λ h xs. refl) (λ h xs. refl)
+  own_reads h Sample = refl
+  own_reads h _ = refl

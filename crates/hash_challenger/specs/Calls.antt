@@ -6,7 +6,6 @@ use Rattle.runs.specs.declared.answer.Answer.TheVariants.{Code, Absent}
 use Rattle.runs.specs.Answers.{as_done, answer_reply}
 use Rattle.runs.specs.Runs.{Rule, ChecksStand}
 use Rattle.runs.specs.Lent.{ReadsNumbers}
-use Rattle.runs.specs.LentProofs.{reads_numbers}
 use Rattle.hash_state.specs.declared.held.HashHeld.{HashHeld}
 use Rattle.hash_state.specs.Rules.{after_observe, sample_of}
 
@@ -22,4 +21,5 @@ module _ (digest : List ℕ → List ℕ) where
   stands h b n = refl
 
   pub reads : ReadsNumbers rule
-  reads = reads_numbers rule (λ h xs. refl) (λ h xs. refl) (λ h xs. refl) (λ h xs. refl) (λ h xs. refl)
+  reads h Sample = refl
+  reads h _ = refl

@@ -6,7 +6,6 @@ use Rattle.runs.specs.declared.answer.Answer.TheVariants.{Code, Absent}
 use Rattle.runs.specs.Answers.{as_done, answer_reply}
 use Rattle.runs.specs.Runs.{Rule}
 use Rattle.runs.specs.Lent.{ReadsNumbers}
-use Rattle.runs.specs.LentProofs.{reads_numbers}
 use Rattle.runs.specs.Interface.{interface_rule}
 use Rattle.sponge.specs.Sponge.{SpongeMake}
 use Rattle.multi_field_challenger.specs.declared.held.MultiHeld.{MultiHeld}
@@ -24,4 +23,5 @@ module _ {order : ℕ} (sampled : ℕ) (k : SpongeMake order) where
   rule = interface_rule (means sampled k) own_rule
 
   pub own_reads : ReadsNumbers own_rule
-  own_reads = reads_numbers own_rule (λ h xs. refl) (λ h xs. refl) (λ h xs. refl) (λ h xs. refl) (λ h xs. refl)
+  own_reads h Sample = refl
+  own_reads h _ = refl

@@ -1,5 +1,5 @@
 -- The rule that whatever has the interface shares: observing, drawing bits, check and grind.
-use Rattle.std.specs.Prelude.{◌≡◌, ◌⊎◌}
+use Rattle.std.specs.Prelude.{◌≡◌, ◌⊎◌, List, ◌∷◌}
 use Rattle.refusal.specs.declared.Refusal.TheVariants.{Bits, NotCode}
 use Rattle.challenger_traits.specs.Meaning.{observe_of, bits_of}
 use Rattle.challenger_traits.specs.Grinding.{Means, check_of, grind_of}
@@ -18,7 +18,12 @@ interface_rule m own h (CheckWitness b w) = answer_reply as_checked (check_of m 
 interface_rule m own h (Grind b n) = answer_reply as_ground (grind_of m h b n)
 interface_rule m own h c = own h c
 
--- a check is refused for its bits, or for a witness that is no code, and for nothing else
+-- a check is refused by the question on its bits or by the one on its witness, 20 and 23, and by no other
 abbrev pub RefusesChecksAlone : Call → Answer → Type 0
 RefusesChecksAlone (CheckWitness b w) (Refused e) = (e ≡ Bits) ⊎ (e ≡ NotCode)
 RefusesChecksAlone _ _ = Unit {0}
+
+-- so is each check among these calls that got an answer
+abbrev pub RefusesChecksAlong : List Call → List Answer → Type 0
+RefusesChecksAlong (c ∷ cs) (a ∷ xs) = RefusesChecksAlone c a × RefusesChecksAlong cs xs
+RefusesChecksAlong _ _ = Unit {0}

@@ -5,11 +5,10 @@ use Rattle.refusal.specs.declared.Refusal.{Refusal}
 use Rattle.challenger_traits.specs.Grinding.{Means, grind_of}
 use Rattle.challenger_traits.specs.GrindingProofs.{InPlace, grind_in_place}
 use Rattle.challenger_traits.specs.SameMeansProofs.{SameMeans, observe-same, bits-same, check-same, grind-same}
-use Rattle.runs.specs.declared.call.Call.TheVariants.{Observe, ObserveDigest, ObserveBytes, ObserveDigestBytes, ObserveDigestWords, Sample, SampleWithin, SampleBits, UniformBits, CheckWitness, Grind}
+use Rattle.runs.specs.declared.call.Call.TheVariants.{Observe, SampleBits, CheckWitness, Grind}
 use Rattle.runs.specs.Answers.{as_done, as_bits, as_checked, as_ground, answer_reply}
 use Rattle.runs.specs.Runs.{Rule, Stands, ChecksStand, witness, SameRules}
 use Rattle.runs.specs.Lent.{ReadsNumbers}
-use Rattle.runs.specs.LentProofs.{reads_numbers}
 use Rattle.runs.specs.Interface.{interface_rule}
 
 module _ {Held : Type 0} (m : Means Held) (own : Rule Held) where
@@ -21,9 +20,11 @@ module _ {Held : Type 0} (m : Means Held) (own : Rule Held) where
   interface_stands h b n = by_said h b (grind_of m h b n).said (grind_of m h b n).left (grind_in_place m h b n)
 
   pub interface_reads : ReadsNumbers own → ReadsNumbers (interface_rule m own)
-  interface_reads reads =
-      reads_numbers (interface_rule m own) (λ h xs. refl) (λ h xs. reads h (ObserveDigest xs)) (λ h xs. reads h (ObserveBytes xs))
-      (λ h xs. reads h (ObserveDigestBytes xs)) (λ h xs. reads h (ObserveDigestWords xs))
+  interface_reads reads h (Observe xs) = refl
+  interface_reads reads h (SampleBits b) = refl
+  interface_reads reads h (CheckWitness b w) = refl
+  interface_reads reads h (Grind b n) = refl
+  interface_reads reads h c = reads h c
 
 module _ {Held : Type 0} (can_be_held : Held → Bool) (m n : Means Held) (same : SameMeans can_be_held m n) (own other : Rule Held) (same_own : SameRules can_be_held own other) where
   pub interface_same : SameRules can_be_held (interface_rule m own) (interface_rule n other)

@@ -3,7 +3,6 @@ pub use Rattle.challenger_traits.specs.Meaning
 pub mod Answers
 pub mod Runs
 pub mod Lent
-pub mod LentProofs
 pub mod Interface
 pub mod InterfaceProofs
 pub mod Spoken

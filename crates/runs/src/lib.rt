@@ -36,9 +36,9 @@ pub trait CanTakeCalls: Holding {
         ensures refusals { RefusesChecksAlone call.now result };
 }
 
-/// A kind of challenger whose makes can be one with those of `V`, also where the two are of different Rust types.
+/// A kind of challenger whose makes can mean the same as those of `V`, also where the two are of different Rust types.
 pub trait MadeLike<V: CanTakeCalls + Holding<Held = Self::Held>>: CanTakeCalls {
-    // Two makes are one: all that making fixes is equal, and all below is equal in meaning.
+    // Two makes mean the same: numbers that making fixes for good are equal, and all below is equal in meaning. What making gave to be held is no part of it.
     ghost same_meaning: { Self.Make → V.Make → Type 0 };
 
     // Then each call means the same to both.

@@ -6,7 +6,6 @@ use Rattle.runs.specs.declared.call.Call.TheVariants.{ObserveDigestBytes, Observ
 use Rattle.runs.specs.Answers.{as_done, as_code, as_bits, answer_reply}
 use Rattle.runs.specs.Runs.{ChecksStand, SameRules}
 use Rattle.runs.specs.Lent.{ReadsNumbers}
-use Rattle.runs.specs.LentProofs.{reads_numbers}
 use Rattle.runs.specs.InterfaceProofs.{interface_stands, interface_reads, interface_same}
 use Rattle.byte_transcript.specs.Transcript.{Transcript, StaysHeld}
 use Rattle.byte_transcript.specs.SameTranscript.{SameTranscript}
@@ -20,10 +19,12 @@ module _ {Held : Type 0} (order : ℕ) (m : Transcript Held) where
   pub stands : ChecksStand (rule order m)
   stands = interface_stands (means order m) (own_rule order m)
 
+  own_reads : ReadsNumbers (own_rule order m)
+  own_reads h (SampleWithin l) = refl
+  own_reads h _ = refl
+
   pub reads : ReadsNumbers (rule order m)
-  reads =
-      interface_reads (means order m) (own_rule order m)
-      (reads_numbers (own_rule order m) (λ h xs. refl) (λ h xs. refl) (λ h xs. refl) (λ h xs. refl) (λ h xs. refl))
+  reads = interface_reads (means order m) (own_rule order m) own_reads
 
 module _ {Held : Type 0} (order : ℕ) (m n : Transcript Held) (stays : StaysHeld m) (same : SameTranscript m n) where
   same_own : SameRules m.can_be_held (own_rule order m) (own_rule order n)

@@ -3,3 +3,5 @@ pub use Rattle.challengers.specs.Grinding
 pub mod Witness
 pub mod Challenges
 pub mod BabyBear
+pub mod Rows
+pub mod Shortest

@@ -5,11 +5,11 @@ ghost use Rattle.challengers.specs.DuplexRules.{fresh_value};
 ghost use Rattle.challengers.specs.DuplexHolds.{make, held_value};
 ghost use Rattle.challengers.specs.DuplexCalls.{rule};
 ghost use Rattle.challengers.specs.Ends.{Agreed, slices};
-ghost use Rattle.uses.specs.BabyBear.{baby_bear_sponge};
+ghost use Rattle.uses.specs.BabyBear.{baby_bear_sponge, baby_bear_ladder};
 
 use challengers::{
-    Answer, BABY_BEAR_ORDER, BabyBear, BabyBearDuplex, Call, Permutation, Refusal, Rehearsal,
-    agree_duplex,
+    Answer, BABY_BEAR_ORDER, BabyBear, BabyBearDuplex, Call, Ends, Ladder, Permutation, Refusal,
+    Rehearsal, agree_duplex, agree_duplex_of_one_make,
 };
 
 /// Plays the calls on a prover and a verifier: each call is answered alike, and the check of each witness that was found says yes.
@@ -25,4 +25,25 @@ pub fn play_both(
         (slices proved.old said.old) (slices proved.new said.new)) }
 {
     agree_duplex::<BabyBear, BABY_BEAR_ORDER>(16, 8, permutation, calls, proved, said)
+}
+
+/// The same under a permutation of the caller's own type: it makes both ends, and calls are played on them as they are.
+pub fn play_both_under_ladder(
+    ladder: Ladder,
+    calls: &[Call],
+    proved: &mut [Answer],
+    said: &mut [Answer],
+) -> Result<Rehearsal<BabyBearDuplex<Ladder>>, Refusal>
+    ensures made { IsOk result }
+    ensures agreed { IfOk result (Agreed make held_value (λ m. rule (baby_bear_ladder m))
+        (λ m. fresh_value (baby_bear_ladder m)) (parameters_of 16 8 ladder) calls.now
+        (slices proved.old said.old) (slices proved.new said.new)) }
+{
+    let mut prover = BabyBearDuplex::<Ladder>::new(16, 8, ladder)?;
+    let mut verifier = BabyBearDuplex::<Ladder>::new(16, 8, ladder)?;
+    let count = agree_duplex_of_one_make(&mut prover, &mut verifier, calls, proved, said);
+    Ok(Rehearsal {
+        ends: Ends { prover, verifier },
+        count,
+    })
 }

@@ -12,7 +12,7 @@ mod serializing;
 mod shortest;
 mod witness;
 
-pub use agreeing::play_both;
+pub use agreeing::{play_both, play_both_under_ladder};
 pub use any::field_challenges;
 pub use duplex::{duplex_challenges, duplex_draws, fresh_duplex};
 pub use hash::{fresh_hash, hash_challenges};

@@ -5,6 +5,9 @@ ghost use Rattle.challengers.specs.Orders.{BABY_BEAR_ORDER};
 ghost use Rattle.challengers.specs.Uniform.{uniform_of};
 ghost use Rattle.challengers.specs.DuplexHolds.{make, held_value, make_meaning};
 ghost use Rattle.challengers.specs.DuplexRules.{sample_of};
+ghost use Rattle.challengers.specs.HashHolds.{make as hash_make, held_value as hash_held};
+ghost use Rattle.challengers.specs.SerializingRules.{sample_of as serializing_sample_of};
+ghost use Rattle.challengers.specs.Usual.{hash_bytes};
 
 use challengers::{BabyBearDuplex, BabyBearHash, CanSampleUniformBits, Ladder, Refusal};
 
@@ -25,6 +28,9 @@ pub fn drawn_place(
 
 /// A sample of a serializing challenger, which is a code.
 pub fn sampled_code(c: &mut BabyBearHash, limit: u64) -> Result<u64, Refusal>
+    ensures does { Does (λ s. hash_make s.inner) (λ s. hash_held s.inner) c.old c.new result
+        (serializing_sample_of BABY_BEAR_ORDER (hash_bytes (hash_make c.old.inner))
+        (hash_held c.old.inner) limit) }
     ensures code { IfOk result (λ value. value < BABY_BEAR_ORDER) }
 {
     c.sample(limit)

@@ -1,14 +1,14 @@
 // A prover and a verifier written apart: the verifier draws what the prover drew.
-ghost use Rattle.std.specs.Prelude.{◌≡◌, Some, Ok, IfOk};
+ghost use Rattle.std.specs.Prelude.{◌≡◌, Some, Ok, Err, IfOk, IfErr};
 ghost use Rattle.challengers.specs.Meaning.{Does, reply};
 ghost use Rattle.challengers.specs.Grinding.{at_make};
-ghost use Rattle.challengers.specs.SpongeHeld.{parameters_of};
-ghost use Rattle.challengers.specs.DuplexRules.{means, fresh_value};
-ghost use Rattle.uses.specs.BabyBear.{baby_bear_sponge};
-ghost use Rattle.uses.specs.Witness.{checked_row};
+ghost use Rattle.challengers.specs.Ends.{AreAlike};
+ghost use Rattle.uses.specs.Witness.{ground_row, checked_row};
+ghost use Rattle.uses.specs.Rows.{prover_row, verifier_row};
 
 use challengers::{
-    BABY_BEAR_ORDER, BabyBear, CanSampleBits, GrindingChallenger, Permutation, Refusal, duplex_ends,
+    BABY_BEAR_ORDER, BabyBear, CanSampleBits, Ends, GrindingChallenger, Permutation, Refusal,
+    duplex_ends,
 };
 
 /// The witness that a prover found, the row that it drew after it, and what the verifier drew.
@@ -27,10 +27,12 @@ pub fn prove_row<C: GrindingChallenger>(
     budget: u64,
     rows: u64,
 ) -> Result<(u64, u64), Refusal>
+    ensures does { Does C.make C.held_value c.old c.new result (ground_row
+        (at_make C.after_observe C.drawing C.check_start (C.make c.old)) (C.held_value c.old)
+        numbers.now bits budget rows) }
     ensures passes { IfOk result (λ drawn. checked_row
         (at_make C.after_observe C.drawing C.check_start (C.make c.old)) (C.held_value c.old)
         numbers.now bits drawn.0 rows ≡ reply (Ok (Some drawn.1)) (C.held_value c.new)) }
-    ensures make { C.make c.new ≡ C.make c.old }
 {
     c.observe(numbers)?;
     let (witness, _) = c.grind(bits, budget)?;
@@ -56,20 +58,46 @@ pub fn verify_row<C: GrindingChallenger>(
     Ok(Some(c.sample_bits(rows)?))
 }
 
-/// Both, each on a challenger of its own: the witness passes, and the verifier draws the prover's row.
-pub fn rehearse_row(permutation: Permutation, numbers: &[u64]) -> Result<Session, Refusal>
+/// Both, on two challengers that are alike: the witness passes, and the verifier draws the prover's row.
+fn play<C: GrindingChallenger>(
+    ends: &mut Ends<C>,
+    numbers: &[u64],
+    bits: u64,
+    budget: u64,
+    rows: u64,
+) -> Result<Session, Refusal>
+    requires alike { AreAlike C.make C.held_value ends.old }
     ensures again { IfOk result (λ session. session.again ≡ Some session.row) }
-    ensures drawn { IfOk result (λ session. (checked_row
-        (means (baby_bear_sponge (parameters_of 16 8 permutation)))
-        (fresh_value (baby_bear_sponge (parameters_of 16 8 permutation))) numbers.now 8
-        session.witness 10).said ≡ Ok session.again) }
+    ensures proved { IfOk result (λ session. (ground_row
+        (at_make C.after_observe C.drawing C.check_start (C.make ends.old.prover))
+        (C.held_value ends.old.prover) numbers.now bits budget rows).said
+        ≡ Ok (session.witness, session.row)) }
+    ensures refused { IfErr result (λ e. (ground_row
+        (at_make C.after_observe C.drawing C.check_start (C.make ends.old.prover))
+        (C.held_value ends.old.prover) numbers.now bits budget rows).said ≡ Err e) }
+    ensures checked { IfOk result (λ session. (checked_row
+        (at_make C.after_observe C.drawing C.check_start (C.make ends.old.prover))
+        (C.held_value ends.old.prover) numbers.now bits session.witness rows).said
+        ≡ Ok session.again) }
 {
-    let mut ends = duplex_ends::<BabyBear, BABY_BEAR_ORDER>(16, 8, permutation)?;
-    let (witness, row) = prove_row(&mut ends.prover, numbers, 8, 10000, 10)?;
-    let again = verify_row(&mut ends.verifier, numbers, 8, witness, 10)?;
+    let (witness, row) = prove_row(&mut ends.prover, numbers, bits, budget, rows)?;
+    let again = verify_row(&mut ends.verifier, numbers, bits, witness, rows)?;
     Ok(Session {
         witness,
         row,
         again,
     })
+}
+
+/// Both, each on a challenger that is made here: the witness passes, and the verifier draws the prover's row.
+pub fn rehearse_row(permutation: Permutation, numbers: &[u64]) -> Result<Session, Refusal>
+    ensures again { IfOk result (λ session. session.again ≡ Some session.row) }
+    ensures proved { IfOk result (λ session. prover_row permutation numbers.now
+        ≡ Ok (session.witness, session.row)) }
+    ensures refused { IfErr result (λ e. prover_row permutation numbers.now ≡ Err e) }
+    ensures checked { IfOk result (λ session. verifier_row permutation numbers.now
+        session.witness ≡ Ok session.again) }
+{
+    let mut ends = duplex_ends::<BabyBear, BABY_BEAR_ORDER>(16, 8, permutation)?;
+    play(&mut ends, numbers, 8, 10000, 10)
 }

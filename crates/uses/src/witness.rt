@@ -1,8 +1,8 @@
 // A witness ground and checked, by any challenger that grinds.
-ghost use Rattle.std.specs.Prelude.{◌≡◌, true, Ok, IfOk};
+ghost use Rattle.std.specs.Prelude.{◌≡◌, true, Ok, Err, IfOk, IfErr};
 ghost use Rattle.challengers.specs.Meaning.{Does, reply};
 ghost use Rattle.challengers.specs.Grinding.{at_make};
-ghost use Rattle.uses.specs.Witness.{observed_and_checked};
+ghost use Rattle.uses.specs.Witness.{observed_and_checked, observed_and_ground};
 
 use challengers::{GrindingChallenger, Refusal};
 
@@ -13,10 +13,12 @@ pub fn prove<C: GrindingChallenger>(
     bits: u64,
     budget: u64,
 ) -> Result<u64, Refusal>
+    ensures does { Does C.make C.held_value c.old c.new result (observed_and_ground
+        (at_make C.after_observe C.drawing C.check_start (C.make c.old)) (C.held_value c.old)
+        numbers.now bits budget) }
     ensures passes { IfOk result (λ witness. observed_and_checked
         (at_make C.after_observe C.drawing C.check_start (C.make c.old)) (C.held_value c.old)
         numbers.now bits witness ≡ reply (Ok true) (C.held_value c.new)) }
-    ensures make { C.make c.new ≡ C.make c.old }
 {
     c.observe(numbers)?;
     let (witness, _) = c.grind(bits, budget)?;
@@ -45,7 +47,13 @@ pub fn prove_and_verify<C: GrindingChallenger + Copy>(
     bits: u64,
     budget: u64,
 ) -> Result<(bool, C), Refusal>
-    ensures agree { IfOk result (λ seen. (seen.0 ≡ true)
+    ensures ground { (C.make prover.new ≡ C.make prover.old) × (C.held_value prover.new
+        ≡ (observed_and_ground (at_make C.after_observe C.drawing C.check_start
+        (C.make prover.old)) (C.held_value prover.old) numbers.now bits budget).left) }
+    ensures refused { IfErr result (λ e. (observed_and_ground (at_make C.after_observe C.drawing
+        C.check_start (C.make prover.old)) (C.held_value prover.old) numbers.now bits budget).said
+        ≡ Err e) }
+    ensures agree { IfOk result (λ seen. (seen.0 ≡ true) × (C.make seen.1 ≡ C.make prover.new)
         × (C.held_value seen.1 ≡ C.held_value prover.new)) }
 {
     let mut verifier = *prover;

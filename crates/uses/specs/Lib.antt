@@ -3,3 +3,4 @@ pub use Rattle.challengers.specs.Grinding
 pub mod Witness
 pub mod Challenges
 pub mod BabyBear
+pub mod Apart

@@ -4,7 +4,8 @@ ghost use Rattle.domain.specs.Codes.{all_codes};
 ghost use Rattle.buffer.specs.Items.{items};
 ghost use Rattle.sponge.specs.SpongeHeld.{held_value as sponge_held, make_meaning, SameMake};
 ghost use Rattle.packing.specs.Packing.{groups};
-ghost use Rattle.multi_field_blocks.specs.Blocks.{scalars_block_turn, after_groups};
+ghost use Rattle.multi_field_blocks.specs.Blocks.{scalars_block_turn, words_block_turn};
+ghost use Rattle.multi_field_blocks.specs.Blocks.{after_groups};
 
 use buffer::Buffer;
 use domain::Domain;
@@ -36,6 +37,20 @@ pub fn flush<
     pending.clear();
 }
 
+/// A turn with these words, as they are: a block tagged by their number.
+pub fn absorb_group<D: Domain<ORDER>, P: CryptographicPermutation<D, ORDER>, const ORDER: u64>(
+    sponge: &mut Sponge<D, P, ORDER>,
+    words: &[u64],
+)
+    requires few { length words.now ≤ sponge.old.rate }
+    requires codes { IsTrue (all_codes ORDER words.now) }
+    ensures state { sponge_held sponge.new ≡ words_block_turn (make_meaning sponge.old)
+        (sponge_held sponge.old).row words.now }
+    ensures make { SameMake sponge.new sponge.old }
+{
+    sponge.absorb(&Buffer::from_slice(words), words.len() as u64);
+}
+
 /// Absorbs the words in groups of the rate, each a block tagged by the number of its words.
 pub fn absorb_words<D: Domain<ORDER>, P: CryptographicPermutation<D, ORDER>, const ORDER: u64>(
     sponge: &mut Sponge<D, P, ORDER>,
@@ -47,6 +62,6 @@ pub fn absorb_words<D: Domain<ORDER>, P: CryptographicPermutation<D, ORDER>, con
     ensures make { SameMake sponge.new sponge.old }
 {
     for group in words.chunks(sponge.rate()) {
-        sponge.absorb(&Buffer::from_slice(group), group.len() as u64);
+        absorb_group(sponge, group);
     }
 }

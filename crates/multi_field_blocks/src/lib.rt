@@ -4,5 +4,5 @@
 mod absorbing;
 mod squeezing;
 
-pub use absorbing::{absorb_words, flush};
+pub use absorbing::{absorb_group, absorb_words, flush};
 pub use squeezing::{ensure_outputs, split_all};

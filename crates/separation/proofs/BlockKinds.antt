@@ -1,5 +1,6 @@
 -- The three kinds of block, and separation of their turns.
 use Rattle.std.proofs.Common.{◌≡◌, ℕ, ◌+◌, ◌-◌, ◌*◌, ◌/◌, ◌^◌, ◌<◌, ◌≤◌, true, ◌&&◌, ◌≢◌, List, [], ◌∷◌, length, take, nat_le, nat_lt, sym, refl, ap, ◌∙◌, arith, Some, None, Option}
+use Rattle.std.specs.Prelude.{IsTrue}
 use Rattle.std.proofs.lemmas.List.{take_at}
 use Rattle.std.proofs.lemmas.Bool.{and_parts, leb-true, ltb-true}
 use Rattle.domain.specs.declared.Domain.{Ghosts as DomainGhosts}
@@ -8,16 +9,20 @@ use Rattle.permutation.specs.declared.CryptographicPermutation.{Ghosts as Permut
 use Rattle.permutation.specs.Rows.{HasOnlyCodes, IsRow, IsLawful}
 use Rattle.permutation.specs.RowsProofs.{all_codes-codes}
 use Rattle.sponge.specs.declared.Sponge.{Sponge}
-use Rattle.sponge.specs.Sponge.{SpongeMake, SpongeState, padded_words, row_with_block}
-use Rattle.sponge.specs.SpongeHeld.{held_value, make_meaning}
+use Rattle.sponge.specs.Sponge.{SpongeMake, SpongeState, padded_words}
+use Rattle.sponge.specs.SpongeHeld.{make_meaning}
+use Rattle.sponge.specs.SameSponge.{SameSponge, is_row_of}
+use Rattle.sponge.specs.SameSpongeProofs.{empty_turn-same, block_turn-same}
+use Rattle.sponge.specs.SpongeHeldProofs.{sponge_row_held}
 use Rattle.sponge.specs.AbsorbingProofs.{Words}
-use Rattle.sponge.proofs.Turning.{sponge_row}
+use Rattle.sponge.proofs.Turning.{sponge_row, rate_small}
+use Rattle.buffer.specs.Items.{items}
 use Rattle.code_bits.specs.CodeBits.{code_bits}
 use Rattle.packing.specs.Powers.{limbs}
 use Rattle.packing.specs.Packing.{packed_words}
 use Rattle.packing.specs.PackingProofs.{limbs-some, scalar_fits, packed_words-length, packed_words-injective, packed_words-codes, groups-few}
 use Rattle.separation.specs.Blocks.{Numbers, codes, scalars, words, is_list_of_codes, is_scalars_block, is_block, is_turn, tag_of, words_of, after_given}
-use Rattle.separation.specs.Separation.{is_one_kind, AreUnlike, UnlikeTurnsLeadToUnlikeRows, EachBlockIsWrittenUnderItsTag}
+use Rattle.separation.specs.Separation.{is_one_kind, AreUnlike, IsTagRule, turn_under, UnlikeTurnsLeadToUnlikeRows, EachBlockIsWrittenUnderItsTag}
 use Rattle.separation.proofs.Separating.{Blocks, none_apart, blocks_apart}
 use Rattle.refusal.specs.declared.limits.TheConstants.{LONGEST_BATCH, GREATEST_SAMPLED_ORDER}
 
@@ -93,7 +98,7 @@ module _ (sampled order rate : ℕ) (low : 2 ≤ sampled) (high : order < 2 ^ 64
       packed_words-length _ one _ xs ∙ ap (λ n. (n + (limbs sampled order - 1)) / limbs sampled order) same ∙ sym (packed_words-length _ one _ ys) in
       packed_words-injective _ one (code_bits sampled) xs ys same (fit xs hx) (fit ys hy) (padded_words-same (packed sampled order xs) (packed sampled order ys) rate long e)
 
--- the three kinds, with the tags of `tag_of`
+-- what each kind writes, and that the tags of `tag_of` obey what is asked of tags
 module _ (sampled order rate : ℕ) (low : 2 ≤ sampled) (codes_low : 256 ≤ order) (high : order < 2 ^ 64) (narrow : rate < 256) where
   pub block-writes : (a : Numbers) → is_block sampled order rate a ≡ true → Words order rate (words_of sampled order a)
   block-writes (codes xs) h = list-words order rate xs h
@@ -117,16 +122,20 @@ module _ (sampled order rate : ℕ) (low : 2 ≤ sampled) (codes_low : 256 ≤ o
   block-same (words xs) (words ys) ha hb one t e = ap words (padded_words-same xs ys rate t e)
   block-same _ _ ha hb one t e = absurd (cc)
 
-  abbrev pub blocks : Blocks order rate Numbers
-  blocks = record {
+  pub tag_of-rule : IsTagRule sampled order rate tag_of
+  tag_of-rule = record { code = tag-code; not_zero = λ a h z. omega (arith, tag-some a h, z); tells = block-same }
+
+  -- the three kinds, under any tag rule
+  abbrev pub blocks : (tag : Numbers → ℕ) → IsTagRule sampled order rate tag → Blocks order rate Numbers
+  blocks tag rule = record {
     is_block = is_block sampled order rate;
     is_one_kind = is_one_kind;
     words = words_of sampled order;
-    tag = tag_of;
+    tag = tag;
     writes = block-writes;
-    code = tag-code;
-    some = tag-some;
-    same = block-same;
+    code = rule.code;
+    some = λ a h. omega (arith, rule.not_zero a h);
+    same = rule.tells;
   }
 
 module _ {order : ℕ} (sampled : ℕ) (k : SpongeMake order) where
@@ -140,40 +149,56 @@ module _ {order : ℕ} (sampled : ℕ) (k : SpongeMake order) where
     across : k.rate < length row
     across = omega (arith, inside, wide)
 
-    abbrev all : Blocks order k.rate Numbers
-    all = blocks sampled order k.rate low k.arithmetic.low k.arithmetic.high (omega (arith, across, is_row.bounded))
+    module _ (tag : Numbers → ℕ) (rule : IsTagRule sampled order k.rate tag) where
+      abbrev all : Blocks order k.rate Numbers
+      all = blocks sampled order k.rate low k.arithmetic.low k.arithmetic.high (omega (arith, across, is_row.bounded)) tag rule
 
-    -- the row after a turn with a block
-    turned : (a : Numbers) → is_block sampled order k.rate a ≡ true → (after_given sampled k row (Some a)).row ≡ k.image (row_with_block k row (words_of sampled order a) (tag_of a))
-    turned a h = ap (λ (s : SpongeState). s.row) (written row a h)
+      pub turns_apart : (left right : Option Numbers) → is_turn sampled order k.rate left ≡ true → is_turn sampled order k.rate right ≡ true
+          → AreUnlike left right → (turn_under tag sampled k row left).row ≢ (turn_under tag sampled k row right).row
+      turns_apart None None tl tr unlike e = unlike.not_same refl
+      turns_apart (Some a) None tl tr unlike e = none_apart k lawful row is_row across all a tl e
+      turns_apart None (Some b) tl tr unlike e = none_apart k lawful row is_row across all b tr (sym e)
+      turns_apart (Some a) (Some b) tl tr unlike e = blocks_apart k lawful row is_row across all a b tl tr unlike.one_kind (λ same. unlike.not_same (ap Some same)) e
 
-    turns_apart : (left right : Option Numbers) → is_turn sampled order k.rate left ≡ true → is_turn sampled order k.rate right ≡ true
-        → AreUnlike left right → (after_given sampled k row left).row ≢ (after_given sampled k row right).row
-    turns_apart None None tl tr unlike e = unlike.not_same refl
-    turns_apart (Some a) None tl tr unlike e = none_apart k lawful row is_row across all a tl (sym (turned a tl) ∙ e)
-    turns_apart None (Some b) tl tr unlike e = none_apart k lawful row is_row across all b tr (sym (turned b tr) ∙ sym e)
-    turns_apart (Some a) (Some b) tl tr unlike e =
-        blocks_apart k lawful row is_row across all a b tl tr unlike.one_kind (λ same. unlike.not_same (ap Some same)) (sym (turned a tl) ∙ e ∙ turned b tr)
+  -- a turn is the turn under the tags of `tag_of`
+  pub given_under : (row : List ℕ) (given : Option Numbers) → is_turn sampled order k.rate given ≡ true → after_given sampled k row given ≡ turn_under tag_of sampled k row given
+  given_under row None h = refl
+  given_under row (Some block) h = written row block h
 
-  pub separation : 2 ≤ sampled → IsLawful order k.image → k.rate < k.width → UnlikeTurnsLeadToUnlikeRows sampled k
-  separation low lawful inside row is_row wide left right tl tr unlike = turns_apart low lawful inside row is_row wide left right tl tr unlike
+-- turns of sponges of one make, on a row that they can hold
+module _ {order : ℕ} (k l : SpongeMake order) (same : SameSponge k l) (lawful : IsLawful order k.image) (row : List ℕ) (ok : IsTrue (is_row_of k row)) (sampled : ℕ) (low : 2 ≤ sampled) (narrow : k.rate < 256) where
+  under_same : (given : Option Numbers) → is_turn sampled order k.rate given ≡ true → turn_under tag_of sampled k row given ≡ turn_under tag_of sampled l row given
+  under_same None h = empty_turn-same k l same lawful row ok
+  under_same (Some block) h =
+      let d = k.arithmetic in
+      block_turn-same k l same lawful row ok (words_of sampled order block) (tag_of block)
+      (block-writes sampled order k.rate low d.low d.high narrow block h) (tag-code sampled order k.rate low d.low d.high narrow block h)
+
+  pub given_same : (given : Option Numbers) → is_turn sampled order k.rate given ≡ true → is_turn sampled order l.rate given ≡ true → after_given sampled k row given ≡ after_given sampled l row given
+  given_same given h g = given_under sampled k row given h ∙ under_same given h ∙ sym (given_under sampled l row given g)
 
 module _ {D P : Type 0} {order : ℕ} {d : DomainGhosts D order} {p : PermutationGhosts P D order} (s : Sponge D P order d p) (sampled : ℕ) (low : 256 ≤ sampled) where
-  pub sponge_separates : UnlikeTurnsLeadToUnlikeRows sampled (make_meaning s)
-  sponge_separates = separation sampled (make_meaning s) (omega (arith, low)) (p.lawful s.permutation) s.wide
+  rate_narrow : s.rate < 256
+  rate_narrow = omega (arith, rate_small s)
 
-  -- rows that unlike turns of this sponge lead to
-  pub rows_apart : (a b : Option Numbers) → is_turn sampled order s.rate a ≡ true → is_turn sampled order s.rate b ≡ true → AreUnlike a b
-      → (left right : List ℕ) → left ≡ (after_given sampled (make_meaning s) (held_value s).row a).row → right ≡ (after_given sampled (make_meaning s) (held_value s).row b).row → left ≢ right
-  rows_apart a b ha hb unlike left right l r e = sponge_separates (held_value s).row (sponge_row s) s.sized a b ha hb unlike (sym l ∙ e ∙ r)
+  pub sponge_tags : IsTagRule sampled order s.rate tag_of
+  sponge_tags = tag_of-rule sampled order s.rate (omega (arith, low)) d.arithmetic.low d.arithmetic.high rate_narrow
 
-  -- two sponges of one make with equal rows, after unlike turns: `left` and `right` are what they hold
-  pub both_apart : (t : Sponge D P order d p) (left right : SpongeState) (a b : Option Numbers)
-      → is_turn sampled order s.rate a ≡ true → is_turn sampled order t.rate b ≡ true
-      → left ≡ after_given sampled (make_meaning s) (held_value s).row a → right ≡ after_given sampled (make_meaning t) (held_value t).row b
-      → make_meaning s ≡ make_meaning t → (held_value s).row ≡ (held_value t).row → AreUnlike a b → left.row ≢ right.row
-  both_apart t left right a b ha hb l r make rows unlike e =
+  pub sponge_separates : (tag : Numbers → ℕ) → IsTagRule sampled order s.rate tag → UnlikeTurnsLeadToUnlikeRows tag sampled (make_meaning s)
+  sponge_separates tag rule row is_row wide = turns_apart sampled (make_meaning s) (omega (arith, low)) (p.lawful s.permutation) s.wide row is_row wide tag rule
+
+-- two sponges of one make with equal rows, after unlike turns: `left` and `right` are the rows that they hold
+module _ {D P E Q : Type 0} {order : ℕ} {d : DomainGhosts D order} {p : PermutationGhosts P D order} {e : DomainGhosts E order} {q : PermutationGhosts Q E order} (s : Sponge D P order d p) (t : Sponge E Q order e q) (sampled : ℕ) (low : 256 ≤ sampled) where
+  pub rows_apart : (a b : Option Numbers) → is_turn sampled order s.rate a ≡ true → is_turn sampled order t.rate b ≡ true
+      → (left right : List ℕ) → left ≡ (after_given sampled (make_meaning s) (items s.row) a).row → right ≡ (after_given sampled (make_meaning t) (items t.row) b).row
+      → SameSponge (make_meaning s) (make_meaning t) → items s.row ≡ items t.row → AreUnlike a b → left ≢ right
+  rows_apart a b ha hb left right l r same rows unlike x =
       let k = make_meaning s in
-      let other : after_given sampled (make_meaning t) (held_value t).row b ≡ after_given sampled k (held_value s).row b = simp (make, rows) in
-      let hb' : is_turn sampled order s.rate b ≡ true = rw (ap (λ (m : SpongeMake order). m.rate) make) hb in
-      rows_apart a b ha hb' unlike left.row right.row (ap (λ (u : SpongeState). u.row) l) (ap (λ (u : SpongeState). u.row) (r ∙ other)) e
+      let row = items s.row in
+      let hb' : is_turn sampled order s.rate b ≡ true = ap (λ n. is_turn sampled order n b) same.rate ∙ hb in
+      let other : after_given sampled k row b ≡ after_given sampled (make_meaning t) (items t.row) b =
+      given_same k (make_meaning t) same (p.lawful s.permutation) row (sponge_row_held s) sampled (omega (arith, low)) (rate_narrow s sampled low) b hb' hb
+      ∙ ap (λ xs. after_given sampled (make_meaning t) xs b) rows in
+      let to_left : left ≡ (turn_under tag_of sampled k row a).row = l ∙ ap (λ (u : SpongeState). u.row) (given_under sampled k row a ha) in
+      let to_right : right ≡ (turn_under tag_of sampled k row b).row = r ∙ ap (λ (u : SpongeState). u.row) (sym other ∙ given_under sampled k row b hb') in
+      sponge_separates s sampled low tag_of (sponge_tags s sampled low) row (sponge_row s) s.sized a b ha hb' unlike (sym to_left ∙ x ∙ to_right)

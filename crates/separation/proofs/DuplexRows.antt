@@ -5,8 +5,10 @@ use Rattle.std.proofs.lemmas.Bool.{and_parts, cond-false, ne_eqb}
 use Rattle.domain.specs.declared.Domain.{Ghosts as DomainGhosts}
 use Rattle.permutation.specs.declared.CryptographicPermutation.{Ghosts as PermutationGhosts}
 use Rattle.buffer.specs.Items.{items}
-use Rattle.sponge.specs.Sponge.{SpongeMake, SpongeState, after_turn as sponge_after_turn}
+use Rattle.sponge.specs.Sponge.{SpongeState, empty_turn, after_turn as sponge_after_turn}
+use Rattle.sponge.specs.SameSponge.{SameSponge}
 use Rattle.sponge.proofs.Turning.{length_code, block-full}
+use Rattle.challenger_traits.specs.Observing.{after_codes}
 use Rattle.duplex_challenger.specs.declared.DuplexChallenger.{DuplexChallenger}
 use Rattle.duplex_challenger.specs.declared.held.DuplexHeld.{DuplexHeld}
 use Rattle.duplex_challenger.specs.Rules.{duplex_held, after_turn, after_code, with_output, sample_of}
@@ -14,8 +16,8 @@ use Rattle.duplex_challenger.specs.Holds.{held_value, make_meaning}
 use Rattle.duplex_challenger.proofs.Prepared.{with_output_is}
 use Rattle.separation.specs.Blocks.{Numbers, codes, scalars, words, is_list_of_codes, is_turn, after_given}
 use Rattle.separation.specs.Separation.{AreUnlike}
-use Rattle.separation.specs.Given.{is_duplex_turn, duplex_takes, duplex_after_given}
-use Rattle.separation.proofs.BlockKinds.{list_few, list-words, written, rows_apart}
+use Rattle.separation.specs.Given.{is_drained, is_duplex_turn, duplex_takes, duplex_after_given}
+use Rattle.separation.proofs.BlockKinds.{list_some, list_few, list-words, written, rows_apart}
 use Rattle.separation.proofs.Observed.{observed, none_of}
 
 module _ {D P : Type 0} {order : ℕ} {d : DomainGhosts D order} {p : PermutationGhosts P D order} (s : DuplexChallenger D P order d p) where
@@ -40,18 +42,17 @@ module _ {D P : Type 0} {order : ℕ} {d : DomainGhosts D order} {p : Permutatio
 
   -- what was asked of the challenger
   module _ (given : Option Numbers) (h : duplex_takes (make_meaning s) (held_value s) given ≡ true) where
-    none_left_and : eqb (length (items s.sponge.outputs)) 0 && is_duplex_turn order s.sponge.rate given ≡ true
-    none_left_and = (and_parts (eqb (length (items s.pending)) 0) _ h).1
+    none_pending : items s.pending ≡ []
+    none_pending = none_of (items s.pending) (and_parts (eqb (length (items s.pending)) 0) _ h).0
 
-    pub empty : held_value s ≡ hold []
-    empty =
-        simp (
-          none_of (items s.pending) (and_parts (eqb (length (items s.pending)) 0) _ h).0,
-          none_of (items s.sponge.outputs) (and_parts (eqb (length (items s.sponge.outputs)) 0) _ none_left_and).0,
-        )
+    drained_and : is_drained given (items s.sponge.outputs) && is_duplex_turn order s.sponge.rate given ≡ true
+    drained_and = (and_parts (eqb (length (items s.pending)) 0) _ h).1
 
-    pub is_given : is_duplex_turn order s.sponge.rate given ≡ true
-    is_given = (and_parts (eqb (length (items s.sponge.outputs)) 0) _ none_left_and).1
+    drained : is_drained given (items s.sponge.outputs) ≡ true
+    drained = (and_parts (is_drained given (items s.sponge.outputs)) _ drained_and).0
+
+    is_given : is_duplex_turn order s.sponge.rate given ≡ true
+    is_given = (and_parts (is_drained given (items s.sponge.outputs)) _ drained_and).1
 
   -- a turn of a duplex challenger is a turn of its sponge
   pub taken-turn : (sampled : ℕ) (given : Option Numbers) → is_duplex_turn order s.sponge.rate given ≡ true → is_turn sampled order s.sponge.rate given ≡ true
@@ -60,29 +61,34 @@ module _ {D P : Type 0} {order : ℕ} {d : DomainGhosts D order} {p : Permutatio
   taken-turn sampled (Some (scalars xs)) h = cc
   taken-turn sampled (Some (words xs)) h = cc
 
-  row_from : (sampled : ℕ) (given : Option Numbers) → is_duplex_turn order s.sponge.rate given ≡ true
-      → (duplex_after_given (make_meaning s) (hold []) given).row ≡ (after_given sampled (make_meaning s) (items s.sponge.row) given).row
+  -- codes that are observed drop the outputs
+  observed_row : (pending outputs xs : List ℕ) → pending ≡ [] → is_list_of_codes order s.sponge.rate xs ≡ true
+      → (sample_of (make_meaning s) (after_codes (after_code (make_meaning s)) (duplex_held (items s.sponge.row) pending outputs) xs)).left.row ≡ (sponge_after_turn (make_meaning s) (items s.sponge.row) xs).row
+  unfolding after_code
+  observed_row pending outputs [] none h = absurd (omega (arith, list_some order s.sponge.rate [] h))
+  observed_row pending outputs (c ∷ cs) none h =
+      let k = make_meaning s in
+      ap (λ ps. (sample_of k (after_codes (after_code k) (after_code k (duplex_held (items s.sponge.row) ps []) c) cs)).left.row) none
+      ∙ observed order s.sponge.rate (after_code k) hold (λ g. (sample_of k g).left.row) (λ xs. (sponge_after_turn k (items s.sponge.row) xs).row) waits ends (c ∷ cs) h
+
+  empty_row : (pending outputs : List ℕ) → pending ≡ [] → outputs ≡ []
+      → (sample_of (make_meaning s) (duplex_held (items s.sponge.row) pending outputs)).left.row ≡ (empty_turn (make_meaning s) (items s.sponge.row)).row
   unfolding sample_of with_output after_turn
-  row_from sampled None h = refl
-  row_from sampled (Some (codes xs)) h =
-      observed order s.sponge.rate (after_code (make_meaning s)) hold (λ g. (sample_of (make_meaning s) g).left.row) (λ xs. (sponge_after_turn (make_meaning s) (items s.sponge.row) xs).row) waits ends xs h
-  row_from sampled (Some (scalars xs)) h = cc
-  row_from sampled (Some (words xs)) h = cc
+  empty_row pending outputs none gone = rw (none, gone) refl
 
   pub row_is : (sampled : ℕ) (given : Option Numbers) → duplex_takes (make_meaning s) (held_value s) given ≡ true
       → (duplex_after_given (make_meaning s) (held_value s) given).row ≡ (after_given sampled (make_meaning s) (items s.sponge.row) given).row
-  row_is sampled given h =
-      ap (λ (g : DuplexHeld). (duplex_after_given (make_meaning s) g given).row) (empty given h) ∙ row_from sampled given (is_given given h)
+  row_is sampled None h = empty_row (items s.pending) (items s.sponge.outputs) (none_pending None h) (none_of (items s.sponge.outputs) (drained None h))
+  row_is sampled (Some (codes xs)) h = observed_row (items s.pending) (items s.sponge.outputs) xs (none_pending (Some (codes xs)) h) (is_given (Some (codes xs)) h)
+  row_is sampled (Some (scalars xs)) h = let no = is_given (Some (scalars xs)) h in cc
+  row_is sampled (Some (words xs)) h = let no = is_given (Some (words xs)) h in cc
 
-  -- two challengers of one make that held the same, after unlike turns: `left` and `right` are what they hold
-  pub both_apart : (t : DuplexChallenger D P order d p) (left right : DuplexHeld) (a b : Option Numbers)
+-- two challengers of one make with equal rows, after unlike turns: `left` and `right` are what they hold
+module _ {D P E Q : Type 0} {order : ℕ} {d : DomainGhosts D order} {p : PermutationGhosts P D order} {e : DomainGhosts E order} {q : PermutationGhosts Q E order} (s : DuplexChallenger D P order d p) (t : DuplexChallenger E Q order e q) where
+  pub both_apart : (left right : DuplexHeld) (a b : Option Numbers)
       → duplex_takes (make_meaning s) (held_value s) a ≡ true → duplex_takes (make_meaning t) (held_value t) b ≡ true
       → left ≡ duplex_after_given (make_meaning s) (held_value s) a → right ≡ duplex_after_given (make_meaning t) (held_value t) b
-      → make_meaning s ≡ make_meaning t → held_value s ≡ held_value t → AreUnlike a b → left.row ≢ right.row
-  both_apart t left right a b ha hb l r make held unlike e =
-      let k = make_meaning s in
-      let h = held_value s in
-      let other : duplex_after_given (make_meaning t) (held_value t) b ≡ duplex_after_given k h b = simp (make, held) in
-      let hb' : duplex_takes k h b ≡ true = ap (λ (m : SpongeMake order). duplex_takes m h b) make ∙ ap (λ (g : DuplexHeld). duplex_takes (make_meaning t) g b) held ∙ hb in
-      rows_apart s.sponge 256 (lit≤ tt) a b (taken-turn 256 a (is_given a ha)) (taken-turn 256 b (is_given b hb')) unlike left.row right.row
-      (ap (λ (g : DuplexHeld). g.row) l ∙ row_is 256 a ha) (ap (λ (g : DuplexHeld). g.row) (r ∙ other) ∙ row_is 256 b hb') e
+      → SameSponge (make_meaning s) (make_meaning t) → (held_value s).row ≡ (held_value t).row → AreUnlike a b → left.row ≢ right.row
+  both_apart left right a b ha hb l r same rows unlike =
+      rows_apart s.sponge t.sponge 256 (lit≤ tt) a b (taken-turn s 256 a (is_given s a ha)) (taken-turn t 256 b (is_given t b hb)) left.row right.row
+      (ap (λ (g : DuplexHeld). g.row) l ∙ row_is s 256 a ha) (ap (λ (g : DuplexHeld). g.row) r ∙ row_is t 256 b hb) same rows unlike

@@ -5,13 +5,15 @@ use Rattle.std.proofs.lemmas.Bool.{and_parts, cond-false, ne_eqb}
 use Rattle.domain.specs.declared.Domain.{Ghosts as DomainGhosts}
 use Rattle.permutation.specs.declared.CryptographicPermutation.{Ghosts as PermutationGhosts}
 use Rattle.buffer.specs.Items.{items}
-use Rattle.sponge.specs.Sponge.{SpongeMake, SpongeState, sponge_state}
+use Rattle.sponge.specs.Sponge.{SpongeMake, SpongeState, sponge_state, empty_turn}
+use Rattle.sponge.specs.SameSponge.{SameSponge}
 use Rattle.sponge.proofs.Turning.{length_code, block-full}
 use Rattle.code_bits.specs.CodeBits.{code_bits}
 use Rattle.packing.specs.Powers.{limbs}
 use Rattle.packing.specs.Packing.{packed_words, groups, group}
 use Rattle.packing.specs.PackingProofs.{groups-few, some-group}
 use Rattle.multi_field_blocks.specs.Blocks.{scalars_block_turn, words_block_turn, with_outputs, after_groups}
+use Rattle.challenger_traits.specs.Observing.{after_codes}
 use Rattle.multi_field_challenger.specs.declared.MultiField32Challenger.{MultiField32Challenger}
 use Rattle.multi_field_challenger.specs.declared.held.MultiHeld.{MultiHeld}
 use Rattle.multi_field_challenger.specs.Rules.{multi_held, after_flush, after_flush_if_pending, after_code, after_digest, after_fill, with_scalar, sample_of}
@@ -19,7 +21,7 @@ use Rattle.multi_field_challenger.specs.Holds.{held_value, make_meaning}
 use Rattle.multi_field_challenger.proofs.Prepared.{with_scalar_is}
 use Rattle.separation.specs.Blocks.{Numbers, codes, scalars, words, is_list_of_codes, is_turn, after_given}
 use Rattle.separation.specs.Separation.{AreUnlike}
-use Rattle.separation.specs.Given.{is_multi_turn, multi_takes, multi_after_given}
+use Rattle.separation.specs.Given.{is_drained, is_multi_turn, multi_takes, multi_after_given}
 use Rattle.separation.proofs.BlockKinds.{list_some, list_few, list-words, packed-block, scalars_list, rows_apart}
 use Rattle.separation.proofs.Observed.{observed, none_of}
 use Rattle.refusal.specs.declared.limits.TheConstants.{LONGEST_BATCH}
@@ -81,22 +83,23 @@ module _ {F D P : Type 0} {sampled order : ℕ} {f : DomainGhosts F sampled} {d 
 
   -- what was asked of the challenger
   module _ (given : Option Numbers) (h : multi_takes sampled (make_meaning s) (held_value s) given ≡ true) where
-    outputs_and : eqb (length (items s.sponge.outputs)) 0 && (eqb (length (items s.squeeze)) 0 && is_multi_turn sampled order s.sponge.rate given) ≡ true
+    none_pending : items s.pending ≡ []
+    none_pending = none_of (items s.pending) (and_parts (eqb (length (items s.pending)) 0) _ h).0
+
+    outputs_and : is_drained given (items s.sponge.outputs) && (is_drained given (items s.squeeze) && is_multi_turn sampled order s.sponge.rate given) ≡ true
     outputs_and = (and_parts (eqb (length (items s.pending)) 0) _ h).1
 
-    squeeze_and : eqb (length (items s.squeeze)) 0 && is_multi_turn sampled order s.sponge.rate given ≡ true
-    squeeze_and = (and_parts (eqb (length (items s.sponge.outputs)) 0) _ outputs_and).1
+    squeeze_and : is_drained given (items s.squeeze) && is_multi_turn sampled order s.sponge.rate given ≡ true
+    squeeze_and = (and_parts (is_drained given (items s.sponge.outputs)) _ outputs_and).1
 
-    empty : held_value s ≡ hold []
-    empty =
-        simp (
-          none_of (items s.pending) (and_parts (eqb (length (items s.pending)) 0) _ h).0,
-          none_of (items s.sponge.outputs) (and_parts (eqb (length (items s.sponge.outputs)) 0) _ outputs_and).0,
-          none_of (items s.squeeze) (and_parts (eqb (length (items s.squeeze)) 0) _ squeeze_and).0,
-        )
+    outputs_drained : is_drained given (items s.sponge.outputs) ≡ true
+    outputs_drained = (and_parts (is_drained given (items s.sponge.outputs)) _ outputs_and).0
+
+    squeeze_drained : is_drained given (items s.squeeze) ≡ true
+    squeeze_drained = (and_parts (is_drained given (items s.squeeze)) _ squeeze_and).0
 
     is_given : is_multi_turn sampled order s.sponge.rate given ≡ true
-    is_given = (and_parts (eqb (length (items s.squeeze)) 0) _ squeeze_and).1
+    is_given = (and_parts (is_drained given (items s.squeeze)) _ squeeze_and).1
 
   -- a turn of a multi-field challenger is a turn of its sponge
   taken-turn : (given : Option Numbers) → is_multi_turn sampled order s.sponge.rate given ≡ true → is_turn sampled order s.sponge.rate given ≡ true
@@ -105,30 +108,45 @@ module _ {F D P : Type 0} {sampled order : ℕ} {f : DomainGhosts F sampled} {d 
   taken-turn (Some (scalars xs)) h = h
   taken-turn (Some (words xs)) h = h
 
-  row_from : (given : Option Numbers) → is_multi_turn sampled order s.sponge.rate given ≡ true
-      → (multi_after_given sampled (make_meaning s) (hold []) given).row ≡ (after_given sampled (make_meaning s) (items s.sponge.row) given).row
+  -- scalars that are observed drop both output lists
+  observed_row : (pending outputs squeeze xs : List ℕ) → pending ≡ [] → is_list_of_codes sampled batch xs ≡ true
+      → (sample_of sampled (make_meaning s) (after_codes (after_code sampled (make_meaning s)) (multi_held (items s.sponge.row) pending outputs squeeze) xs)).left.row ≡ (scalars_block_turn sampled (make_meaning s) (items s.sponge.row) xs).row
+  unfolding after_code
+  observed_row pending outputs squeeze [] none h = absurd (omega (arith, list_some sampled batch [] h))
+  observed_row pending outputs squeeze (c ∷ cs) none h =
+      let k = make_meaning s in
+      ap (λ ps. (sample_of sampled k (after_codes (after_code sampled k) (after_code sampled k (multi_held (items s.sponge.row) ps [] []) c) cs)).left.row) none
+      ∙ observed sampled batch (after_code sampled k) hold (λ g. (sample_of sampled k g).left.row) (λ xs. (scalars_block_turn sampled k (items s.sponge.row) xs).row) waits ends (c ∷ cs) h
+
+  -- so does a digest
+  digest_row : (pending outputs squeeze ws : List ℕ) → pending ≡ [] → is_list_of_codes order s.sponge.rate ws ≡ true
+      → (sample_of sampled (make_meaning s) (after_digest sampled (make_meaning s) (multi_held (items s.sponge.row) pending outputs squeeze) ws)).left.row ≡ (words_block_turn (make_meaning s) (items s.sponge.row) ws).row
+  unfolding after_digest
+  digest_row pending outputs squeeze ws none h =
+      ap (λ ps. (sample_of sampled (make_meaning s) (after_digest sampled (make_meaning s) (multi_held (items s.sponge.row) ps [] []) ws)).left.row) none ∙ digest ws h
+
+  empty_row : (pending outputs squeeze : List ℕ) → pending ≡ [] → outputs ≡ [] → squeeze ≡ []
+      → (sample_of sampled (make_meaning s) (multi_held (items s.sponge.row) pending outputs squeeze)).left.row ≡ (empty_turn (make_meaning s) (items s.sponge.row)).row
   unfolding sample_of with_scalar after_fill after_flush_if_pending with_outputs
-  row_from None h = refl
-  row_from (Some (codes xs)) h = cc
-  row_from (Some (scalars xs)) h =
-      observed sampled batch (after_code sampled (make_meaning s)) hold (λ g. (sample_of sampled (make_meaning s) g).left.row) (λ xs. (scalars_block_turn sampled (make_meaning s) (items s.sponge.row) xs).row) waits ends xs
-      (scalars_list sampled order s.sponge.rate xs h)
-  row_from (Some (words ws)) h = digest ws h
+  empty_row pending outputs squeeze none gone split = rw (none, gone, split) refl
 
   pub row_is : (given : Option Numbers) → multi_takes sampled (make_meaning s) (held_value s) given ≡ true
       → (multi_after_given sampled (make_meaning s) (held_value s) given).row ≡ (after_given sampled (make_meaning s) (items s.sponge.row) given).row
-  row_is given h = ap (λ (g : MultiHeld). (multi_after_given sampled (make_meaning s) g given).row) (empty given h) ∙ row_from given (is_given given h)
+  row_is None h =
+      empty_row (items s.pending) (items s.sponge.outputs) (items s.squeeze) (none_pending None h) (none_of (items s.sponge.outputs) (outputs_drained None h))
+      (none_of (items s.squeeze) (squeeze_drained None h))
+  row_is (Some (codes xs)) h = let no = is_given (Some (codes xs)) h in cc
+  row_is (Some (scalars xs)) h =
+      observed_row (items s.pending) (items s.sponge.outputs) (items s.squeeze) xs (none_pending (Some (scalars xs)) h) (scalars_list sampled order s.sponge.rate xs (is_given (Some (scalars xs)) h))
+  row_is (Some (words ws)) h = digest_row (items s.pending) (items s.sponge.outputs) (items s.squeeze) ws (none_pending (Some (words ws)) h) (is_given (Some (words ws)) h)
 
-  -- two challengers of one make that held the same, after unlike turns: `left` and `right` are what they hold
-  pub both_apart : (t : MultiField32Challenger F D P sampled order f d p) (left right : MultiHeld) (a b : Option Numbers)
+-- two challengers of one make with equal rows, after unlike turns: `left` and `right` are what they hold
+module _ {F D P G E Q : Type 0} {sampled order : ℕ} {f : DomainGhosts F sampled} {d : DomainGhosts D order} {p : PermutationGhosts P D order} {g : DomainGhosts G sampled} {e : DomainGhosts E order} {q : PermutationGhosts Q E order} (high : order < 2 ^ 64)
+    (s : MultiField32Challenger F D P sampled order f d p) (t : MultiField32Challenger G E Q sampled order g e q) where
+  pub both_apart : (left right : MultiHeld) (a b : Option Numbers)
       → multi_takes sampled (make_meaning s) (held_value s) a ≡ true → multi_takes sampled (make_meaning t) (held_value t) b ≡ true
       → left ≡ multi_after_given sampled (make_meaning s) (held_value s) a → right ≡ multi_after_given sampled (make_meaning t) (held_value t) b
-      → make_meaning s ≡ make_meaning t → held_value s ≡ held_value t → AreUnlike a b → left.row ≢ right.row
-  both_apart t left right a b ha hb l r make held unlike e =
-      let k = make_meaning s in
-      let h = held_value s in
-      let other : multi_after_given sampled (make_meaning t) (held_value t) b ≡ multi_after_given sampled k h b = simp (make, held) in
-      let hb' : multi_takes sampled k h b ≡ true =
-      ap (λ (m : SpongeMake order). multi_takes sampled m h b) make ∙ ap (λ (g : MultiHeld). multi_takes sampled (make_meaning t) g b) held ∙ hb in
-      rows_apart s.sponge sampled f.arithmetic.low a b (taken-turn a (is_given a ha)) (taken-turn b (is_given b hb')) unlike left.row right.row
-      (ap (λ (g : MultiHeld). g.row) l ∙ row_is a ha) (ap (λ (g : MultiHeld). g.row) (r ∙ other) ∙ row_is b hb') e
+      → SameSponge (make_meaning s) (make_meaning t) → (held_value s).row ≡ (held_value t).row → AreUnlike a b → left.row ≢ right.row
+  both_apart left right a b ha hb l r same rows unlike =
+      rows_apart s.sponge t.sponge sampled f.arithmetic.low a b (taken-turn high s a (is_given high s a ha)) (taken-turn high t b (is_given high t b hb)) left.row right.row
+      (ap (λ (h : MultiHeld). h.row) l ∙ row_is high s a ha) (ap (λ (h : MultiHeld). h.row) r ∙ row_is high t b hb) same rows unlike

@@ -44,7 +44,7 @@ abbrev pub is_turn : (sampled order rate : ℕ) → Option Numbers → Bool
 is_turn sampled order rate None = true
 is_turn sampled order rate (Some block) = is_block sampled order rate block
 
--- the tag of a block: the number of its codes, scalars or words. Of a tag it is asked that it is a code and not 0, and that blocks of one kind are equal if their tags are, and their words but for zeros behind them
+-- the tag of a block: the number of its codes, scalars or words
 abbrev pub tag_of : Numbers → ℕ
 tag_of (codes xs) = length xs
 tag_of (scalars xs) = length xs

@@ -1,7 +1,7 @@
 -- Separation: unlike turns lead to unlike rows.
-use Rattle.std.specs.Prelude.{◌≡◌, ℕ, Bool, true, false, ◌≢◌, List, length, Some, Option, IsTrue}
+use Rattle.std.specs.Prelude.{◌≡◌, ℕ, ◌<◌, Bool, true, false, ◌≢◌, List, length, Some, None, Option, IsTrue}
 use Rattle.permutation.specs.Rows.{IsRow}
-use Rattle.sponge.specs.Sponge.{SpongeMake, block_turn}
+use Rattle.sponge.specs.Sponge.{SpongeMake, SpongeState, padded_words, block_turn, empty_turn}
 use Rattle.separation.specs.Blocks.{Numbers, codes, scalars, words, is_block, is_turn, tag_of, words_of, after_given}
 
 -- are both blocks of one kind?
@@ -21,12 +21,24 @@ pub record AreUnlike (left right : Option Numbers) : Type 0 where
   pub one_kind : IsTrue (is_one_kind_or_none left right)
   pub not_same : left ≢ right
 
--- of a sponge: on each row of its width, unlike turns lead to unlike rows
-abbrev pub UnlikeTurnsLeadToUnlikeRows : {order : ℕ} → ℕ → SpongeMake order → Type 0
-UnlikeTurnsLeadToUnlikeRows {order} sampled k =
+-- a rule by which blocks may be tagged: each tag is a code and not 0, and of blocks of one kind only equal ones have equal tags and equal words but for zeros behind them
+pub record IsTagRule (sampled order rate : ℕ) (tag : Numbers → ℕ) : Type 0 where
+  pub code : (block : Numbers) → IsTrue (is_block sampled order rate block) → tag block < order
+  pub not_zero : (block : Numbers) → IsTrue (is_block sampled order rate block) → tag block ≢ 0
+  pub tells : (a b : Numbers) → IsTrue (is_block sampled order rate a) → IsTrue (is_block sampled order rate b) → IsTrue (is_one_kind a b)
+      → tag a ≡ tag b → padded_words (words_of sampled order a) rate ≡ padded_words (words_of sampled order b) rate → a ≡ b
+
+-- what a turn leaves under a tag rule, from this row: the block's words are absorbed under its tag; an empty turn has neither
+abbrev pub turn_under : {order : ℕ} → (Numbers → ℕ) → ℕ → SpongeMake order → List ℕ → Option Numbers → SpongeState
+turn_under tag sampled k row None = empty_turn k row
+turn_under {order} tag sampled k row (Some block) = block_turn k row (words_of sampled order block) (tag block)
+
+-- of a sponge, under a tag rule: on each row of its width, unlike turns lead to unlike rows
+abbrev pub UnlikeTurnsLeadToUnlikeRows : {order : ℕ} → (Numbers → ℕ) → ℕ → SpongeMake order → Type 0
+UnlikeTurnsLeadToUnlikeRows {order} tag sampled k =
     (row : List ℕ) → IsRow order row → length row ≡ k.width
     → (left right : Option Numbers) → IsTrue (is_turn sampled order k.rate left) → IsTrue (is_turn sampled order k.rate right)
-    → AreUnlike left right → (after_given sampled k row left).row ≢ (after_given sampled k row right).row
+    → AreUnlike left right → (turn_under tag sampled k row left).row ≢ (turn_under tag sampled k row right).row
 
 -- of a sponge: a turn with a block writes the block's words under its tag
 abbrev pub EachBlockIsWrittenUnderItsTag : {order : ℕ} → ℕ → SpongeMake order → Type 0

@@ -1,5 +1,6 @@
 // Duplex challengers that are given blocks.
 ghost use Rattle.std.specs.Prelude.{◌≡◌, ℕ, ◌&&◌, ◌≢◌, if◌then◌else◌, IsTrue};
+ghost use Rattle.sponge.specs.SameSponge.{SameSponge};
 ghost use Rattle.duplex_challenger.specs.Holds.{held_value, make, make_meaning};
 ghost use Rattle.separation.specs.Blocks.{numbers_of};
 ghost use Rattle.separation.specs.Separation.{AreUnlike};
@@ -12,7 +13,7 @@ use domain::Domain;
 use duplex_challenger::DuplexChallenger;
 use permutation::CryptographicPermutation;
 
-/// Is nothing pending and no output left, and is it none or a block of codes?
+/// Is nothing pending, and is it a block of codes, or none with no output left?
 fn takes<D: Domain<ORDER>, P: CryptographicPermutation<D, ORDER>, const ORDER: u64>(
     challenger: &DuplexChallenger<D, P, ORDER>,
     block: Option<Block>,
@@ -20,11 +21,11 @@ fn takes<D: Domain<ORDER>, P: CryptographicPermutation<D, ORDER>, const ORDER: u
     ensures { result ≡ duplex_takes (make_meaning challenger.now) (held_value challenger.now)
         (numbers_of block.entry) }
 {
-    if !challenger.pending().is_empty() || !challenger.outputs().is_empty() {
+    if !challenger.pending().is_empty() {
         return false;
     }
     match block {
-        None => true,
+        None => challenger.outputs().is_empty(),
         Some(Block::Codes(codes)) => is_list_of_codes::<ORDER>(codes, challenger.rate()),
         Some(Block::Scalars(_)) => false,
         Some(Block::Words(_)) => false,
@@ -49,14 +50,16 @@ fn give<D: Domain<ORDER>, P: CryptographicPermutation<D, ORDER>, const ORDER: u6
 }
 
 /// Gives the first challenger `left` and the second one `right`, a block of codes or none, each followed by a sample, and answers true;
-/// answers false and moves nothing if one of them is no block of that challenger, or something is pending or left in it.
+/// answers false and moves nothing if one of them is no block of that challenger, or something is pending in it, or an output is left where no block is given.
 pub fn observe_both_duplex<
     D: Domain<ORDER>,
     P: CryptographicPermutation<D, ORDER>,
+    E: Domain<ORDER>,
+    Q: CryptographicPermutation<E, ORDER>,
     const ORDER: u64,
 >(
     first: &mut DuplexChallenger<D, P, ORDER>,
-    second: &mut DuplexChallenger<D, P, ORDER>,
+    second: &mut DuplexChallenger<E, Q, ORDER>,
     left: Option<Block>,
     right: Option<Block>,
 ) -> bool
@@ -74,8 +77,8 @@ pub fn observe_both_duplex<
         (held_value first.old).row (numbers_of left.entry) (held_value first.new).row
         × IsOneTurn sampled (make_meaning second.old) (held_value second.old).row
         (numbers_of right.entry) (held_value second.new).row }
-    ensures apart { IsTrue result → make_meaning first.old ≡ make_meaning second.old
-        → held_value first.old ≡ held_value second.old
+    ensures apart { IsTrue result → SameSponge (make_meaning first.old) (make_meaning second.old)
+        → (held_value first.old).row ≡ (held_value second.old).row
         → AreUnlike (numbers_of left.entry) (numbers_of right.entry)
         → (held_value first.new).row ≢ (held_value second.new).row }
 {

@@ -1,5 +1,6 @@
 // Multi-field challengers that are given blocks.
 ghost use Rattle.std.specs.Prelude.{◌≡◌, ◌&&◌, ◌≢◌, if◌then◌else◌, IsTrue};
+ghost use Rattle.sponge.specs.SameSponge.{SameSponge};
 ghost use Rattle.multi_field_challenger.specs.Holds.{held_value, make, make_meaning};
 ghost use Rattle.separation.specs.Blocks.{numbers_of};
 ghost use Rattle.separation.specs.Separation.{AreUnlike};
@@ -12,7 +13,7 @@ use domain::Domain;
 use multi_field_challenger::MultiField32Challenger;
 use permutation::CryptographicPermutation;
 
-/// Is nothing pending, no output left and the squeeze list empty, and is it none or a block of scalars or of words?
+/// Is nothing pending, and is it a block of scalars or of words, or none with no output left and the squeeze list empty?
 fn takes<
     F: Domain<SAMPLED>,
     D: Domain<ORDER>,
@@ -23,13 +24,11 @@ fn takes<
     ensures { result ≡ multi_takes SAMPLED (make_meaning challenger.now) (held_value challenger.now)
         (numbers_of block.entry) }
 {
-    if !challenger.pending().is_empty() || !challenger.outputs().is_empty() {
-        return false;
-    }
-    if !challenger.squeeze().is_empty() {
+    if !challenger.pending().is_empty() {
         return false;
     }
     match block {
+        None => challenger.outputs().is_empty() && challenger.squeeze().is_empty(),
         Some(Block::Codes(_)) => false,
         given => is_turn::<F, SAMPLED, ORDER>(given, challenger.rate()),
     }
@@ -59,16 +58,19 @@ fn give<
 }
 
 /// Gives the first challenger `left` and the second one `right`, a block of scalars or of words, or none, each followed by a sample, and answers true;
-/// answers false and moves nothing if one of them is no block of that challenger, or something is pending or left in it.
+/// answers false and moves nothing if one of them is no block of that challenger, or something is pending in it, or an output or a scalar is left where no block is given.
 pub fn observe_both_multi_field<
     F: Domain<SAMPLED>,
     D: Domain<ORDER>,
     P: CryptographicPermutation<D, ORDER>,
+    G: Domain<SAMPLED>,
+    E: Domain<ORDER>,
+    Q: CryptographicPermutation<E, ORDER>,
     const SAMPLED: u64,
     const ORDER: u64,
 >(
     first: &mut MultiField32Challenger<F, D, P, SAMPLED, ORDER>,
-    second: &mut MultiField32Challenger<F, D, P, SAMPLED, ORDER>,
+    second: &mut MultiField32Challenger<G, E, Q, SAMPLED, ORDER>,
     left: Option<Block>,
     right: Option<Block>,
 ) -> bool
@@ -86,8 +88,8 @@ pub fn observe_both_multi_field<
         (held_value first.old).row (numbers_of left.entry) (held_value first.new).row
         × IsOneTurn SAMPLED (make_meaning second.old) (held_value second.old).row
         (numbers_of right.entry) (held_value second.new).row }
-    ensures apart { IsTrue result → make_meaning first.old ≡ make_meaning second.old
-        → held_value first.old ≡ held_value second.old
+    ensures apart { IsTrue result → SameSponge (make_meaning first.old) (make_meaning second.old)
+        → (held_value first.old).row ≡ (held_value second.old).row
         → AreUnlike (numbers_of left.entry) (numbers_of right.entry)
         → (held_value first.new).row ≢ (held_value second.new).row }
 {

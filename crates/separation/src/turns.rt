@@ -1,9 +1,11 @@
 // Turns of sponges with blocks.
-ghost use Rattle.std.specs.Prelude.{◌≡◌, ◌<◌, ◌≤◌, ◌&&◌, ◌≢◌, if◌then◌else◌, IsTrue};
+ghost use Rattle.std.specs.Prelude.{◌≡◌, ℕ, ◌<◌, ◌≤◌, ◌&&◌, ◌≢◌, if◌then◌else◌, IsTrue};
 ghost use Rattle.sponge.specs.SpongeHeld.{held_value, make_meaning, SameMake};
-ghost use Rattle.separation.specs.Blocks.{numbers_of, is_list_of_codes, is_scalars_block};
-ghost use Rattle.separation.specs.Blocks.{is_turn, after_given};
-ghost use Rattle.separation.specs.Separation.{AreUnlike, UnlikeTurnsLeadToUnlikeRows};
+ghost use Rattle.sponge.specs.SameSponge.{SameSponge};
+ghost use Rattle.separation.specs.Blocks.{Numbers, numbers_of, is_list_of_codes};
+ghost use Rattle.separation.specs.Blocks.{is_scalars_block, is_turn, tag_of, after_given};
+ghost use Rattle.separation.specs.Separation.{AreUnlike, IsTagRule};
+ghost use Rattle.separation.specs.Separation.{UnlikeTurnsLeadToUnlikeRows};
 ghost use Rattle.separation.specs.Separation.{EachBlockIsWrittenUnderItsTag};
 
 use crate::Block;
@@ -84,11 +86,13 @@ pub fn turn_both<
     F: Domain<SAMPLED>,
     D: Domain<ORDER>,
     P: CryptographicPermutation<D, ORDER>,
+    E: Domain<ORDER>,
+    Q: CryptographicPermutation<E, ORDER>,
     const SAMPLED: u64,
     const ORDER: u64,
 >(
     first: &mut Sponge<D, P, ORDER>,
-    second: &mut Sponge<D, P, ORDER>,
+    second: &mut Sponge<E, Q, ORDER>,
     left: Option<Block>,
     right: Option<Block>,
 ) -> bool
@@ -101,11 +105,13 @@ pub fn turn_both<
         then after_given SAMPLED (make_meaning second.old) (held_value second.old).row
         (numbers_of right.entry) else held_value second.old) }
     ensures makes { (SameMake first.new first.old) × (SameMake second.new second.old) }
-    ensures apart { IsTrue result → make_meaning first.old ≡ make_meaning second.old
+    ensures apart { IsTrue result → SameSponge (make_meaning first.old) (make_meaning second.old)
         → (held_value first.old).row ≡ (held_value second.old).row
         → AreUnlike (numbers_of left.entry) (numbers_of right.entry)
         → (held_value first.new).row ≢ (held_value second.new).row }
-    ensures separation { UnlikeTurnsLeadToUnlikeRows SAMPLED (make_meaning first.old) }
+    ensures separation { (tag : Numbers → ℕ) → IsTagRule SAMPLED ORDER first.old.rate tag
+        → UnlikeTurnsLeadToUnlikeRows tag SAMPLED (make_meaning first.old) }
+    ensures tags { IsTagRule SAMPLED ORDER first.old.rate tag_of }
     ensures written { EachBlockIsWrittenUnderItsTag SAMPLED (make_meaning first.old) }
 {
     if !is_turn::<F, SAMPLED, ORDER>(left, first.rate())
@@ -114,6 +120,6 @@ pub fn turn_both<
         return false;
     }
     turn::<F, D, P, SAMPLED, ORDER>(first, left);
-    turn::<F, D, P, SAMPLED, ORDER>(second, right);
+    turn::<F, E, Q, SAMPLED, ORDER>(second, right);
     true
 }

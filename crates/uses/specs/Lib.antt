@@ -5,3 +5,4 @@ pub mod Challenges
 pub mod BabyBear
 pub mod Rows
 pub mod Shortest
+pub mod Apart

@@ -13,5 +13,5 @@ returns-clause-turns g c =
 
 pub returns-clause-apart : goal.returns-clause-apart
 returns-clause-apart g c =
-    λ _ make held unlike. both_apart c.args.first.now c.args.second.now _ _ (numbers_of c.args.left) (numbers_of c.args.right)
-    (sym c.takes.ensures ∙ c.if-not-takes.false) (sym c.takes-else-not-takes.ensures ∙ c.if-not-takes-2.false) c.give.ensures.state c.give-2.ensures.state make held unlike
+    λ _ same rows unlike. both_apart c.args.first.now c.args.second.now _ _ (numbers_of c.args.left) (numbers_of c.args.right)
+    (sym c.takes.ensures ∙ c.if-not-takes.false) (sym c.takes-else-not-takes.ensures ∙ c.if-not-takes-2.false) c.give.ensures.state c.give-2.ensures.state same rows unlike

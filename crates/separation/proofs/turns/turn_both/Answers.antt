@@ -1,6 +1,7 @@
 use Rattle.std.proofs.Common.{◌≡◌, ℕ, Bool, true, Option, sym, ap, ◌∙◌}
+use Rattle.sponge.specs.Sponge.{SpongeState}
 use Rattle.separation.specs.Blocks.{Numbers, numbers_of, is_turn}
-use Rattle.separation.proofs.BlockKinds.{sponge_separates, both_apart}
+use Rattle.separation.proofs.BlockKinds.{sponge_tags, sponge_separates, rows_apart}
 use Rattle.separation.proofs.turns.turn_both.Goals as goal
 
 -- a test that answered yes, at what the rate was read as
@@ -13,6 +14,12 @@ returns-then-not-is_turn-clause-separation g c = sponge_separates c.args.first.n
 pub returns-clause-separation : goal.returns-clause-separation
 returns-clause-separation g c = sponge_separates c.args.first.now g.row.SAMPLED g.F.Domain.arithmetic.low
 
+pub returns-then-not-is_turn-clause-tags : goal.returns-then-not-is_turn-clause-tags
+returns-then-not-is_turn-clause-tags g c = sponge_tags c.args.first.now g.row.SAMPLED g.F.Domain.arithmetic.low
+
+pub returns-clause-tags : goal.returns-clause-tags
+returns-clause-tags g c = sponge_tags c.args.first.now g.row.SAMPLED g.F.Domain.arithmetic.low
+
 pub returns-clause-apart : goal.returns-clause-apart
 returns-clause-apart g c =
     let s = c.args.first.now in
@@ -21,4 +28,5 @@ returns-clause-apart g c =
     let right = numbers_of c.args.right in
     let fits = tells g.row.SAMPLED g.row.ORDER _ s.rate left _ c.rate.ensures.value c.is_turn.ensures c.if-not-is_turn.false in
     let fits-2 = tells g.row.SAMPLED g.row.ORDER _ t.rate right _ c.rate-else-not-is_turn.ensures.value c.is_turn-else-not-is_turn.ensures c.if-not-is_turn-2.false in
-    λ _ make rows unlike. both_apart s g.row.SAMPLED g.F.Domain.arithmetic.low t _ _ left right fits fits-2 c.turn.ensures.state c.turn-2.ensures.state make rows unlike
+    λ _ same rows unlike. rows_apart s t g.row.SAMPLED g.F.Domain.arithmetic.low left right fits fits-2 _ _
+    (ap (λ (u : SpongeState). u.row) c.turn.ensures.state) (ap (λ (u : SpongeState). u.row) c.turn-2.ensures.state) same rows unlike

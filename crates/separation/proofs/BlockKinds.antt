@@ -184,8 +184,16 @@ module _ {D P : Type 0} {order : ℕ} {d : DomainGhosts D order} {p : Permutatio
   pub sponge_tags : IsTagRule sampled order s.rate tag_of
   sponge_tags = tag_of-rule sampled order s.rate (omega (arith, low)) d.arithmetic.low d.arithmetic.high rate_narrow
 
-  pub sponge_separates : (tag : Numbers → ℕ) → IsTagRule sampled order s.rate tag → UnlikeTurnsLeadToUnlikeRows tag sampled (make_meaning s)
+  pub sponge_separates : (tag : Numbers → ℕ) → IsTagRule sampled order s.rate tag → UnlikeTurnsLeadToUnlikeRows (turn_under tag sampled (make_meaning s)) sampled (make_meaning s)
   sponge_separates tag rule row is_row wide = turns_apart sampled (make_meaning s) (omega (arith, low)) (p.lawful s.permutation) s.wide row is_row wide tag rule
+
+  -- its turns are those under the tags of `tag_of`
+  pub sponge_turns_separate : UnlikeTurnsLeadToUnlikeRows (after_given sampled (make_meaning s)) sampled (make_meaning s)
+  sponge_turns_separate row is_row wide left right hl hr unlike x =
+      let k = make_meaning s in
+      let to_left = ap (λ (u : SpongeState). u.row) (given_under sampled k row left hl) in
+      let to_right = ap (λ (u : SpongeState). u.row) (given_under sampled k row right hr) in
+      sponge_separates tag_of sponge_tags row is_row wide left right hl hr unlike (sym to_left ∙ x ∙ to_right)
 
 -- two sponges of one make with equal rows, after unlike turns: `left` and `right` are the rows that they hold
 module _ {D P E Q : Type 0} {order : ℕ} {d : DomainGhosts D order} {p : PermutationGhosts P D order} {e : DomainGhosts E order} {q : PermutationGhosts Q E order} (s : Sponge D P order d p) (t : Sponge E Q order e q) (sampled : ℕ) (low : 256 ≤ sampled) where

@@ -33,12 +33,12 @@ abbrev pub turn_under : {order : ℕ} → (Numbers → ℕ) → ℕ → SpongeMa
 turn_under tag sampled k row None = empty_turn k row
 turn_under {order} tag sampled k row (Some block) = block_turn k row (words_of sampled order block) (tag block)
 
--- of a sponge, under a tag rule: on each row of its width, unlike turns lead to unlike rows
-abbrev pub UnlikeTurnsLeadToUnlikeRows : {order : ℕ} → (Numbers → ℕ) → ℕ → SpongeMake order → Type 0
-UnlikeTurnsLeadToUnlikeRows {order} tag sampled k =
+-- of a sponge, and of what a turn leaves: on each row of its width, unlike turns lead to unlike rows
+abbrev pub UnlikeTurnsLeadToUnlikeRows : {order : ℕ} → (List ℕ → Option Numbers → SpongeState) → ℕ → SpongeMake order → Type 0
+UnlikeTurnsLeadToUnlikeRows {order} after sampled k =
     (row : List ℕ) → IsRow order row → length row ≡ k.width
     → (left right : Option Numbers) → IsTrue (is_turn sampled order k.rate left) → IsTrue (is_turn sampled order k.rate right)
-    → AreUnlike left right → (turn_under tag sampled k row left).row ≢ (turn_under tag sampled k row right).row
+    → AreUnlike left right → (after row left).row ≢ (after row right).row
 
 -- of a sponge: a turn with a block writes the block's words under its tag
 abbrev pub EachBlockIsWrittenUnderItsTag : {order : ℕ} → ℕ → SpongeMake order → Type 0

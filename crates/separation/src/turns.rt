@@ -5,7 +5,7 @@ ghost use Rattle.sponge.specs.SameSponge.{SameSponge};
 ghost use Rattle.separation.specs.Blocks.{Numbers, numbers_of, is_list_of_codes};
 ghost use Rattle.separation.specs.Blocks.{is_scalars_block, is_turn, tag_of, after_given};
 ghost use Rattle.separation.specs.Separation.{AreUnlike, IsTagRule};
-ghost use Rattle.separation.specs.Separation.{UnlikeTurnsLeadToUnlikeRows};
+ghost use Rattle.separation.specs.Separation.{turn_under, UnlikeTurnsLeadToUnlikeRows};
 ghost use Rattle.separation.specs.Separation.{EachBlockIsWrittenUnderItsTag};
 
 use crate::Block;
@@ -109,8 +109,11 @@ pub fn turn_both<
         → (held_value first.old).row ≡ (held_value second.old).row
         → AreUnlike (numbers_of left.entry) (numbers_of right.entry)
         → (held_value first.new).row ≢ (held_value second.new).row }
-    ensures separation { (tag : Numbers → ℕ) → IsTagRule SAMPLED ORDER first.old.rate tag
-        → UnlikeTurnsLeadToUnlikeRows tag SAMPLED (make_meaning first.old) }
+    ensures separation { UnlikeTurnsLeadToUnlikeRows (after_given SAMPLED (make_meaning first.old))
+        SAMPLED (make_meaning first.old) }
+    ensures any_tags { (tag : Numbers → ℕ) → IsTagRule SAMPLED ORDER first.old.rate tag
+        → UnlikeTurnsLeadToUnlikeRows (turn_under tag SAMPLED (make_meaning first.old)) SAMPLED
+        (make_meaning first.old) }
     ensures tags { IsTagRule SAMPLED ORDER first.old.rate tag_of }
     ensures written { EachBlockIsWrittenUnderItsTag SAMPLED (make_meaning first.old) }
 {

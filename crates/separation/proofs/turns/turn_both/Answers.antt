@@ -1,7 +1,7 @@
 use Rattle.std.proofs.Common.{◌≡◌, ℕ, Bool, true, Option, sym, ap, ◌∙◌}
 use Rattle.sponge.specs.Sponge.{SpongeState}
 use Rattle.separation.specs.Blocks.{Numbers, numbers_of, is_turn}
-use Rattle.separation.proofs.BlockKinds.{sponge_tags, sponge_separates, rows_apart}
+use Rattle.separation.proofs.BlockKinds.{sponge_tags, sponge_separates, sponge_turns_separate, rows_apart}
 use Rattle.separation.proofs.turns.turn_both.Goals as goal
 
 -- a test that answered yes, at what the rate was read as
@@ -9,10 +9,16 @@ tells : (sampled order read rate : ℕ) (given : Option Numbers) (answer : Bool)
 tells sampled order read rate given answer r e h = ap (λ n. is_turn sampled order n given) (sym r) ∙ sym e ∙ h
 
 pub returns-then-not-is_turn-clause-separation : goal.returns-then-not-is_turn-clause-separation
-returns-then-not-is_turn-clause-separation g c = sponge_separates c.args.first.now g.row.SAMPLED g.F.Domain.arithmetic.low
+returns-then-not-is_turn-clause-separation g c = sponge_turns_separate c.args.first.now g.row.SAMPLED g.F.Domain.arithmetic.low
 
 pub returns-clause-separation : goal.returns-clause-separation
-returns-clause-separation g c = sponge_separates c.args.first.now g.row.SAMPLED g.F.Domain.arithmetic.low
+returns-clause-separation g c = sponge_turns_separate c.args.first.now g.row.SAMPLED g.F.Domain.arithmetic.low
+
+pub returns-then-not-is_turn-clause-any_tags : goal.returns-then-not-is_turn-clause-any_tags
+returns-then-not-is_turn-clause-any_tags g c = sponge_separates c.args.first.now g.row.SAMPLED g.F.Domain.arithmetic.low
+
+pub returns-clause-any_tags : goal.returns-clause-any_tags
+returns-clause-any_tags g c = sponge_separates c.args.first.now g.row.SAMPLED g.F.Domain.arithmetic.low
 
 pub returns-then-not-is_turn-clause-tags : goal.returns-then-not-is_turn-clause-tags
 returns-then-not-is_turn-clause-tags g c = sponge_tags c.args.first.now g.row.SAMPLED g.F.Domain.arithmetic.low

@@ -11,7 +11,7 @@ ghost use Rattle.separation.specs.Separation.{EachBlockIsWrittenUnderItsTag};
 use crate::Block;
 use buffer::Buffer;
 use domain::{Domain, all_codes};
-use multi_field_blocks::flush;
+use multi_field_blocks::{absorb_group, flush};
 use packing::RadixPacking;
 use permutation::CryptographicPermutation;
 use refusal::limits::{GREATEST_SAMPLED_ORDER, LONGEST_BATCH, WIDEST_RATE};
@@ -73,9 +73,7 @@ fn turn<
             let packing = RadixPacking::<SAMPLED, ORDER>::new();
             flush(&packing, sponge, &mut Buffer::from_slice(scalars));
         }
-        Some(Block::Words(words)) => {
-            sponge.absorb(&Buffer::from_slice(words), words.len() as u64)
-        }
+        Some(Block::Words(words)) => absorb_group(sponge, words),
     }
 }
 

@@ -1,4 +1,5 @@
-use Rattle.std.proofs.Common.{◌≡◌, ℕ, true, arith, lit<, lit≤, ◌∙◌, ap, Some, Option}
+use Rattle.std.proofs.Common.{◌≡◌, ℕ, true, rules, arith, lit<, lit≤, ◌∙◌, ap, Some, Option}
+use Rattle.permutation.specs.RowsProofs.{codes-all_codes}
 use Rattle.sponge.proofs.Turning.{rate_small}
 use Rattle.separation.specs.declared.block.Block.{Block}
 use Rattle.separation.specs.declared.block.Block.TheVariants.{Codes, Scalars, Words}
@@ -18,13 +19,15 @@ from_slice-requires g c =
     let h : is_list_of_codes g.row.ORDER s.rate xs ≡ true = asked g.row.SAMPLED g.row.ORDER s.rate c.args.block (Codes c.in-Some-Codes.codes) (c.in-Some-Codes.is ∙ ap Some found) c.requires.turn in
     (lit< tt, (omega (arith, list_few g.row.ORDER s.rate xs h, rate_small s), (lit≤ tt, list_codes g.row.ORDER s.rate xs h)))
 
-pub from_slice-requires-in-Some-Words : goal.from_slice-requires-in-Some-Words
-from_slice-requires-in-Some-Words g c =
+pub absorb_group-requires : goal.absorb_group-requires
+absorb_group-requires g c =
     let s = c.args.sponge.now in
     let xs = c.in-Some-Words.words.now in
     let found : c.in-Some-Words.field-0 ≡ Words c.in-Some-Words.words = rw c.in-Some-Words.is at c.in-Some-Words.field-0-is in
     let h : is_list_of_codes g.row.ORDER s.rate xs ≡ true = asked g.row.SAMPLED g.row.ORDER s.rate c.args.block (Words c.in-Some-Words.words) (c.in-Some-Words.is ∙ ap Some found) c.requires.turn in
-    (lit< tt, (omega (arith, list_few g.row.ORDER s.rate xs h, rate_small s), (lit≤ tt, list_codes g.row.ORDER s.rate xs h)))
+    let few = list_few g.row.ORDER s.rate xs h in
+    let codes = codes-all_codes g.row.ORDER xs (list_codes g.row.ORDER s.rate xs h) in
+    search rules
 
 pub from_slice-requires-in-Some-Scalars : goal.from_slice-requires-in-Some-Scalars
 from_slice-requires-in-Some-Scalars g c =

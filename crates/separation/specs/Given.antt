@@ -27,14 +27,14 @@ is_multi_turn sampled order rate (Some (scalars xs)) = is_block sampled order ra
 is_multi_turn sampled order rate (Some (words xs)) = is_block sampled order rate (words xs)
 
 -- is this list of outputs empty, where no block is given? A block that is observed drops them all; with none a sample takes what is left, and turns only if nothing is
-abbrev pub is_drained : Option Numbers → List ℕ → Bool
-is_drained None left = length left == 0
-is_drained (Some block) left = true
+abbrev pub nothing_left : Option Numbers → List ℕ → Bool
+nothing_left None left = length left == 0
+nothing_left (Some block) left = true
 
 module _ {order : ℕ} (k : SpongeMake order) where
   -- is nothing pending, and is this a block of a duplex challenger, or none with no output left?
   abbrev pub duplex_takes : DuplexHeld → Option Numbers → Bool
-  duplex_takes h given = length h.pending == 0 && (is_drained given h.outputs && is_duplex_turn order k.rate given)
+  duplex_takes h given = length h.pending == 0 && (nothing_left given h.outputs && is_duplex_turn order k.rate given)
 
   -- the codes are observed, if there are some, and a sample is taken; any other block is not taken
   abbrev pub duplex_after_given : DuplexHeld → Option Numbers → DuplexHeld
@@ -46,7 +46,7 @@ module _ {order : ℕ} (k : SpongeMake order) where
 module _ {order : ℕ} (sampled : ℕ) (k : SpongeMake order) where
   -- is nothing pending, and is this a block of a multi-field challenger, or none with no output left and the squeeze list empty?
   abbrev pub multi_takes : MultiHeld → Option Numbers → Bool
-  multi_takes h given = length h.pending == 0 && (is_drained given h.outputs && (is_drained given h.squeeze && is_multi_turn sampled order k.rate given))
+  multi_takes h given = length h.pending == 0 && (nothing_left given h.outputs && (nothing_left given h.squeeze && is_multi_turn sampled order k.rate given))
 
   -- the scalars are observed, or the words as a digest, if there are some, and a sample is taken; any other block is not taken
   abbrev pub multi_after_given : MultiHeld → Option Numbers → MultiHeld

@@ -6,7 +6,7 @@ use Rattle.sponge.specs.Sponge.{SpongeMake}
 use Rattle.runs.specs.declared.call.Call.{Call}
 use Rattle.runs.specs.declared.answer.Answer.{Answer}
 use Rattle.runs.specs.Runs.{Rule, party, Run, repeated_calls, has_places, Agree}
-use Rattle.runs.specs.Interface.{RefusesChecksAlong}
+use Rattle.runs.specs.Interface.{EachRefusedAsChecksAre}
 use Rattle.agreement.specs.declared.ends.Ends.{Ends}
 use Rattle.agreement.specs.declared.ends.Rehearsal.{Rehearsal}
 use Rattle.agreement.specs.declared.across.Across.{Across}
@@ -51,31 +51,31 @@ module _ {Held : Type 0} (prover verifier : Rule Held) (p₀ v₀ p₁ v₁ : He
     pub verifies : Run verifier (repeated_calls calls after.proved) (party v₀ (take count after.said) v₁)
     pub counted : count ≡ length (repeated_calls calls after.proved)
     pub few : count ≤ length after.said
-    pub refusals : RefusesChecksAlong calls after.proved × RefusesChecksAlong (repeated_calls calls after.proved) (take count after.said)
+    pub refusals : EachRefusedAsChecksAre calls after.proved × EachRefusedAsChecksAre (repeated_calls calls after.proved) (take count after.said)
     pub rest : drop count after.said ≡ drop count before.said
 
-  abbrev pub PlayedOrNot : Option ℕ → Type 0
-  PlayedOrNot count = MatchOption count Unplayed Played
+  abbrev pub PlayedIfPlaces : Option ℕ → Type 0
+  PlayedIfPlaces count = MatchOption count Unplayed Played
 
 -- if the calls were played, the two ends, which held p₀ and v₀ and hold p₁ and v₁ now, agree
 abbrev pub AgreeIfPlayed : {Held : Type 0} (p₀ v₀ p₁ v₁ : Held) → List Call → Slices → Option ℕ → Type 0
 AgreeIfPlayed p₀ v₀ p₁ v₁ calls after count = IfSome count (λ n. Agree calls (party p₀ after.proved p₁) (party v₀ (take n after.said) v₁))
 
--- both ends were made with k and held what such a challenger holds when it is made; then the calls were played on them
+-- both ends were made with k and held what such a challenger holds when it is made; then the calls were played on them, or nothing moved
 pub record Agreed {C Make Held : Type 0} (make : C → Make) (held : C → Held) (rule : Make → Rule Held) (fresh : Make → Held) (k : Make) (calls : List Call) (before after : Slices) (r : Rehearsal C) : Type 0 where
   pub prover_make : make r.ends.prover ≡ k
   pub verifier_make : make r.ends.verifier ≡ k
-  pub played : PlayedOrNot (rule k) (rule k) (fresh k) (fresh k) (held r.ends.prover) (held r.ends.verifier) calls before after r.count
+  pub played : PlayedIfPlaces (rule k) (rule k) (fresh k) (fresh k) (held r.ends.prover) (held r.ends.verifier) calls before after r.count
   pub agree : AgreeIfPlayed (fresh k) (fresh k) (held r.ends.prover) (held r.ends.verifier) calls after r.count
 
 -- a make was refused: no slice moved
 abbrev pub SlicesStay : {Made : Type 0} → Slices → Slices → Result Made Refusal → Type 0
 SlicesStay before after result = IfErr result (λ _. after ≡ before)
 
--- of ends of two Rust types: both makes mean k, and both ends held what such a challenger holds when it is made; then the calls were played on them
+-- of ends of two Rust types: both makes mean k, and both ends held what such a challenger holds when it is made; then the calls were played on them, or nothing moved
 pub record AgreedAcross {P V Meaning Held : Type 0} (meaning : P → Meaning) (other_meaning : V → Meaning) (held : P → Held) (other_held : V → Held)
     (rule : Meaning → Rule Held) (fresh : Meaning → Held) (k : Meaning) (calls : List Call) (before after : Slices) (a : Across P V) : Type 0 where
   pub prover_make : meaning a.prover ≡ k
   pub verifier_make : other_meaning a.verifier ≡ k
-  pub played : PlayedOrNot (rule k) (rule k) (fresh k) (fresh k) (held a.prover) (other_held a.verifier) calls before after a.count
+  pub played : PlayedIfPlaces (rule k) (rule k) (fresh k) (fresh k) (held a.prover) (other_held a.verifier) calls before after a.count
   pub agree : AgreeIfPlayed (fresh k) (fresh k) (held a.prover) (other_held a.verifier) calls after a.count

@@ -12,7 +12,7 @@ ghost use Rattle.hash_challenger.specs.Calls.{rule as hash_rule};
 ghost use Rattle.hashers.specs.Choice.{digest_of};
 ghost use Rattle.agreement.specs.Ends.{AgreedAcross, slices, SlicesStay, sponge_make};
 
-use crate::ends::play;
+use crate::{agree_duplex_of_one_make, agree_hash_of_one_make};
 use domain::Domain;
 use duplex_challenger::DuplexChallenger;
 use hash_challenger::HashChallenger;
@@ -55,7 +55,7 @@ pub fn agree_across_permutations<D: Domain<ORDER> + Copy, const ORDER: u64>(
         rate,
         Permutation::Mirror(Mirror),
     )?;
-    let count = play(&mut prover, &mut verifier, calls, proved, said);
+    let count = agree_duplex_of_one_make(&mut prover, &mut verifier, calls, proved, said);
     Ok(Across {
         prover,
         verifier,
@@ -78,7 +78,7 @@ pub fn agree_across_hashers(
 {
     let mut prover: HashChallenger<Sha256, 32> = HashChallenger::new(initial, Sha256)?;
     let mut verifier: HashChallenger<Hasher, 32> = HashChallenger::new(initial, Hasher::Sha256)?;
-    let count = play(&mut prover, &mut verifier, calls, proved, said);
+    let count = agree_hash_of_one_make(&mut prover, &mut verifier, calls, proved, said);
     Ok(Across {
         prover,
         verifier,

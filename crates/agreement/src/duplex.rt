@@ -7,7 +7,7 @@ ghost use Rattle.permutation.specs.Choice.{image as image_of};
 ghost use Rattle.duplex_challenger.specs.Rules.{fresh_value};
 ghost use Rattle.duplex_challenger.specs.Holds.{IsFresh, make, held_value, make_meaning};
 ghost use Rattle.duplex_challenger.specs.Calls.{rule};
-ghost use Rattle.agreement.specs.Ends.{Agreed, AgreeIfPlayed, PlayedOrNot, slices, SlicesStay};
+ghost use Rattle.agreement.specs.Ends.{Agreed, AgreeIfPlayed, PlayedIfPlaces, slices, SlicesStay};
 
 use crate::ends::play;
 use crate::{Ends, Rehearsal};
@@ -48,7 +48,7 @@ pub fn agree_duplex<D: Domain<ORDER> + Copy, const ORDER: u64>(
     ensures kept { SlicesStay (slices proved.old said.old) (slices proved.new said.new) result }
 {
     let mut ends = duplex_ends::<D, ORDER>(width, rate, permutation)?;
-    let count = play(&mut ends.prover, &mut ends.verifier, calls, proved, said);
+    let count = agree_duplex_of_one_make(&mut ends.prover, &mut ends.verifier, calls, proved, said);
     Ok(Rehearsal { ends, count })
 }
 
@@ -71,7 +71,7 @@ pub fn agree_duplex_of_one_make<
         → AgreeIfPlayed (held_value prover.old) (held_value verifier.old)
         (held_value prover.new) (held_value verifier.new) calls.now
         (slices proved.new said.new) result }
-    ensures played { PlayedOrNot (rule (make_meaning prover.old))
+    ensures played { PlayedIfPlaces (rule (make_meaning prover.old))
         (rule (make_meaning verifier.old)) (held_value prover.old)
         (held_value verifier.old) (held_value prover.new) (held_value verifier.new) calls.now
         (slices proved.old said.old) (slices proved.new said.new) result }

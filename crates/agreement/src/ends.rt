@@ -1,6 +1,6 @@
 // The two ends, and what playing calls on them gives.
 ghost use Rattle.std.specs.Prelude.{◌≡◌};
-ghost use Rattle.agreement.specs.Ends.{AgreeIfPlayed, PlayedOrNot, slices};
+ghost use Rattle.agreement.specs.Ends.{AgreeIfPlayed, PlayedIfPlaces, slices};
 
 use challenger_traits::Holding;
 use runs::{Answer, Call, CanTakeCalls, MadeLike, agree};
@@ -32,7 +32,7 @@ pub(crate) fn play<P: MadeLike<V>, V: CanTakeCalls + Holding<Held = P::Held>>(
         → AgreeIfPlayed (P.held_value prover.old) (V.held_value verifier.old)
         (P.held_value prover.new) (V.held_value verifier.new) calls.now
         (slices proved.new said.new) result }
-    ensures played { PlayedOrNot (P.rule (P.make prover.old)) (V.rule (V.make verifier.old))
+    ensures played { PlayedIfPlaces (P.rule (P.make prover.old)) (V.rule (V.make verifier.old))
         (P.held_value prover.old) (V.held_value verifier.old) (P.held_value prover.new)
         (V.held_value verifier.new) calls.now (slices proved.old said.old)
         (slices proved.new said.new) result }

@@ -6,7 +6,7 @@ ghost use Rattle.hash_state.specs.Rules.{initial_no, fresh_value};
 ghost use Rattle.hash_challenger.specs.Holds.{IsFresh, make, held_value};
 ghost use Rattle.hash_challenger.specs.Calls.{rule};
 ghost use Rattle.hashers.specs.Choice.{digest_of};
-ghost use Rattle.agreement.specs.Ends.{Agreed, AgreeIfPlayed, PlayedOrNot, slices, SlicesStay};
+ghost use Rattle.agreement.specs.Ends.{Agreed, AgreeIfPlayed, PlayedIfPlaces, slices, SlicesStay};
 
 use crate::ends::play;
 use crate::{Ends, Rehearsal};
@@ -43,7 +43,7 @@ pub fn agree_hash(
     ensures kept { SlicesStay (slices proved.old said.old) (slices proved.new said.new) result }
 {
     let mut ends = hash_ends(initial, hasher)?;
-    let count = play(&mut ends.prover, &mut ends.verifier, calls, proved, said);
+    let count = agree_hash_of_one_make(&mut ends.prover, &mut ends.verifier, calls, proved, said);
     Ok(Rehearsal { ends, count })
 }
 
@@ -64,7 +64,7 @@ pub fn agree_hash_of_one_make<
         (I.digest (make verifier.old)) → held_value prover.old ≡ held_value verifier.old
         → AgreeIfPlayed (held_value prover.old) (held_value verifier.old) (held_value prover.new)
         (held_value verifier.new) calls.now (slices proved.new said.new) result }
-    ensures played { PlayedOrNot (rule (H.digest (make prover.old)))
+    ensures played { PlayedIfPlaces (rule (H.digest (make prover.old)))
         (rule (I.digest (make verifier.old))) (held_value prover.old)
         (held_value verifier.old) (held_value prover.new) (held_value verifier.new) calls.now
         (slices proved.old said.old) (slices proved.new said.new) result }

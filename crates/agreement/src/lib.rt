@@ -1,4 +1,4 @@
-//! Both ends of a transcript, made from the same numbers, and the calls played on both: the two agree, with nothing asked.
+//! Both ends of a transcript: made from the same numbers, with nothing asked, or taken as two challengers of one make; calls are played on both, and the two agree.
 #![tactic(auto)]
 
 mod across;

@@ -8,7 +8,7 @@ ghost use Rattle.multi_field_challenger.specs.Rules.{fresh_value};
 ghost use Rattle.multi_field_challenger.specs.Holds.{first_no, IsFresh, make, held_value};
 ghost use Rattle.multi_field_challenger.specs.Holds.{make_meaning};
 ghost use Rattle.multi_field_challenger.specs.Calls.{rule};
-ghost use Rattle.agreement.specs.Ends.{Agreed, AgreeIfPlayed, PlayedOrNot, slices, SlicesStay};
+ghost use Rattle.agreement.specs.Ends.{Agreed, AgreeIfPlayed, PlayedIfPlaces, slices, SlicesStay};
 
 use crate::ends::play;
 use crate::{Ends, Rehearsal};
@@ -55,7 +55,13 @@ pub fn agree_multi_field<
     ensures kept { SlicesStay (slices proved.old said.old) (slices proved.new said.new) result }
 {
     let mut ends = multi_field_ends::<F, D, SAMPLED, ORDER>(width, rate, permutation)?;
-    let count = play(&mut ends.prover, &mut ends.verifier, calls, proved, said);
+    let count = agree_multi_field_of_one_make(
+        &mut ends.prover,
+        &mut ends.verifier,
+        calls,
+        proved,
+        said,
+    );
     Ok(Rehearsal { ends, count })
 }
 
@@ -81,7 +87,7 @@ pub fn agree_multi_field_of_one_make<
         → AgreeIfPlayed (held_value prover.old) (held_value verifier.old)
         (held_value prover.new) (held_value verifier.new) calls.now
         (slices proved.new said.new) result }
-    ensures played { PlayedOrNot (rule SAMPLED (make_meaning prover.old))
+    ensures played { PlayedIfPlaces (rule SAMPLED (make_meaning prover.old))
         (rule SAMPLED (make_meaning verifier.old)) (held_value prover.old)
         (held_value verifier.old) (held_value prover.new) (held_value verifier.new) calls.now
         (slices proved.old said.old) (slices proved.new said.new) result }

@@ -16,7 +16,7 @@ ghost use Rattle.hash_challenger.specs.Meaning.{hash_transcript};
 ghost use Rattle.hashers.specs.Choice.{digest_of, hashing_of};
 ghost use Rattle.duplex_challenger.specs.Bytes.{byte_transcript};
 ghost use Rattle.serializing_challenger.specs.Calls.{rule};
-ghost use Rattle.agreement.specs.Ends.{Agreed, AgreeIfPlayed, PlayedOrNot, or_above, slices};
+ghost use Rattle.agreement.specs.Ends.{Agreed, AgreeIfPlayed, PlayedIfPlaces, or_above, slices};
 ghost use Rattle.agreement.specs.Ends.{SlicesStay};
 
 use crate::ends::play;
@@ -69,7 +69,13 @@ pub fn agree_serializing_duplex<D: Domain<ORDER> + Copy, const ORDER: u64>(
     ensures kept { SlicesStay (slices proved.old said.old) (slices proved.new said.new) result }
 {
     let mut ends = serializing_duplex_ends::<D, ORDER>(width, rate, permutation)?;
-    let count = play(&mut ends.prover, &mut ends.verifier, calls, proved, said);
+    let count = agree_serializing_of_one_make(
+        &mut ends.prover,
+        &mut ends.verifier,
+        calls,
+        proved,
+        said,
+    );
     Ok(Rehearsal { ends, count })
 }
 
@@ -104,7 +110,13 @@ pub fn agree_serializing_hash<D: Domain<ORDER> + Copy, const ORDER: u64>(
     ensures kept { SlicesStay (slices proved.old said.old) (slices proved.new said.new) result }
 {
     let mut ends = serializing_hash_ends::<D, ORDER>(initial, hasher)?;
-    let count = play(&mut ends.prover, &mut ends.verifier, calls, proved, said);
+    let count = agree_serializing_of_one_make(
+        &mut ends.prover,
+        &mut ends.verifier,
+        calls,
+        proved,
+        said,
+    );
     Ok(Rehearsal { ends, count })
 }
 
@@ -128,7 +140,7 @@ pub fn agree_serializing_of_one_make<
         → AgreeIfPlayed (T.held_value prover.old.inner) (U.held_value verifier.old.inner)
         (T.held_value prover.new.inner) (U.held_value verifier.new.inner) calls.now
         (slices proved.new said.new) result }
-    ensures played { PlayedOrNot (rule ORDER (T.meaning (T.make prover.old.inner)))
+    ensures played { PlayedIfPlaces (rule ORDER (T.meaning (T.make prover.old.inner)))
         (rule ORDER (U.meaning (U.make verifier.old.inner)))
         (T.held_value prover.old.inner) (U.held_value verifier.old.inner)
         (T.held_value prover.new.inner) (U.held_value verifier.new.inner) calls.now

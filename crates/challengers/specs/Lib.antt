@@ -27,6 +27,7 @@ pub use Rattle.permutation.specs.Ladder
 pub use Rattle.permutation.specs.Choice as PermutationChoice
 pub use Rattle.permutation.specs.SameImages
 pub use Rattle.buffer.specs.Items
+pub use Rattle.sponge.specs.Tags
 pub use Rattle.sponge.specs.Sponge
 pub use Rattle.sponge.specs.SpongeHeld
 pub use Rattle.sponge.specs.SameSponge

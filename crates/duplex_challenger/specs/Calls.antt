@@ -26,6 +26,7 @@ module _ {order : ℕ} (k : SpongeMake order) where
   abbrev pub rule : Rule DuplexHeld
   rule = interface_rule (means k) own_rule
 
+  -- each call by itself, the second line for all that are not named
   pub own_reads : ReadsNumbers own_rule
   own_reads h Sample = refl
   own_reads h _ = refl

@@ -1,17 +1,18 @@
 -- Words absorbed in groups of RATE, and outputs, on what a sponge holds.
 use Rattle.std.specs.Prelude.{ℕ, zero, suc, List, length, ◌==◌, if◌then◌else◌}
+use Rattle.sponge.specs.Tags.{scalars, words, tag_of}
 use Rattle.sponge.specs.Sponge.{SpongeMake, SpongeState, block_turn, empty_turn}
 use Rattle.code_bits.specs.CodeBits.{code_bits}
 use Rattle.packing.specs.Powers.{limbs}
 use Rattle.packing.specs.Packing.{packed_words, group}
 
--- a turn with these scalars, from this row: packed in groups of limbs, they are a block tagged by their number
+-- a turn with these scalars, from this row: packed in groups of limbs, they are a block under its tag
 abbrev pub scalars_block_turn : {order : ℕ} → ℕ → SpongeMake order → List ℕ → List ℕ → SpongeState
-scalars_block_turn {order = order} sampled k row scalars = block_turn k row (packed_words (code_bits sampled) (limbs sampled order) scalars) (length scalars)
+scalars_block_turn {order = order} sampled k row xs = block_turn k row (packed_words (code_bits sampled) (limbs sampled order) xs) (tag_of (scalars xs))
 
--- a turn with these words, from this row: as they are, they are a block tagged by their number
+-- a turn with these words, from this row: as they are, they are a block under its tag
 abbrev pub words_block_turn : {order : ℕ} → SpongeMake order → List ℕ → List ℕ → SpongeState
-words_block_turn k row words = block_turn k row words (length words)
+words_block_turn k row xs = block_turn k row xs (tag_of (words xs))
 
 module _ {order : ℕ} (k : SpongeMake order) where
   -- a turn with no block, if no output is left

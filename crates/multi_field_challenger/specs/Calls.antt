@@ -22,6 +22,7 @@ module _ {order : ℕ} (sampled : ℕ) (k : SpongeMake order) where
   abbrev pub rule : Rule MultiHeld
   rule = interface_rule (means sampled k) own_rule
 
+  -- each call by itself, the second line for all that are not named
   pub own_reads : ReadsNumbers own_rule
   own_reads h Sample = refl
   own_reads h _ = refl

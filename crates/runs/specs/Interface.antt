@@ -19,11 +19,11 @@ interface_rule m own h (Grind b n) = answer_reply as_ground (grind_of m h b n)
 interface_rule m own h c = own h c
 
 -- a check is refused by the question on its bits or by the one on its witness, 20 and 23, and by no other
-abbrev pub RefusesChecksAlone : Call → Answer → Type 0
-RefusesChecksAlone (CheckWitness b w) (Refused e) = (e ≡ Bits) ⊎ (e ≡ NotCode)
-RefusesChecksAlone _ _ = Unit {0}
+abbrev pub RefusedAsChecksAre : Call → Answer → Type 0
+RefusedAsChecksAre (CheckWitness b w) (Refused e) = (e ≡ Bits) ⊎ (e ≡ NotCode)
+RefusedAsChecksAre _ _ = Unit {0}
 
 -- so is each check among these calls that got an answer
-abbrev pub RefusesChecksAlong : List Call → List Answer → Type 0
-RefusesChecksAlong (c ∷ cs) (a ∷ xs) = RefusesChecksAlone c a × RefusesChecksAlong cs xs
-RefusesChecksAlong _ _ = Unit {0}
+abbrev pub EachRefusedAsChecksAre : List Call → List Answer → Type 0
+EachRefusedAsChecksAre (c ∷ cs) (a ∷ xs) = RefusedAsChecksAre c a × EachRefusedAsChecksAre cs xs
+EachRefusedAsChecksAre _ _ = Unit {0}

@@ -2,7 +2,7 @@
 ghost use Rattle.challenger_traits.specs.Meaning.{Does};
 ghost use Rattle.challenger_traits.specs.Grinding.{at_make};
 ghost use Rattle.runs.specs.Runs.{Rule};
-ghost use Rattle.runs.specs.Interface.{interface_rule, RefusesChecksAlone};
+ghost use Rattle.runs.specs.Interface.{interface_rule, RefusedAsChecksAre};
 
 use crate::{Answer, Call};
 use challenger_traits::GrindingChallenger;
@@ -23,7 +23,7 @@ pub fn call_interface<C: HasOwnCalls>(c: &mut C, call: &Call) -> Answer
     ensures does { Does C.make C.held_value c.old c.new result
         (interface_rule (at_make C.after_observe C.drawing C.check_start (C.make c.old))
         (C.own_rule (C.make c.old)) (C.held_value c.old) call.now) }
-    ensures refusals { RefusesChecksAlone call.now result }
+    ensures refusals { RefusedAsChecksAre call.now result }
 {
     match call {
         Call::Observe(codes) => c

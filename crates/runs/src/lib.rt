@@ -1,12 +1,10 @@
 //! Calls as values, and runs of them: the prover's, the verifier's, and the law that the two agree.
 #![tactic(auto)]
 
-ghost use Rattle.std.specs.Prelude.{◌≡◌, ℕ, List};
 ghost use Rattle.challenger_traits.specs.Meaning.{Does};
-ghost use Rattle.runs.specs.declared.call.Call.{Call as CallT};
 ghost use Rattle.runs.specs.Runs.{Rule, ChecksStand, SameRules};
 ghost use Rattle.runs.specs.Lent.{ReadsNumbers};
-ghost use Rattle.runs.specs.Interface.{RefusesChecksAlone};
+ghost use Rattle.runs.specs.Interface.{RefusedAsChecksAre};
 
 mod answer;
 mod call;
@@ -33,7 +31,7 @@ pub trait CanTakeCalls: Holding {
     fn call(&mut self, call: &Call) -> Answer
         ensures does { Does Self.make Self.held_value self.old self.new result
             (rule (Self.make self.old) (Self.held_value self.old) call.now) }
-        ensures refusals { RefusesChecksAlone call.now result };
+        ensures refusals { RefusedAsChecksAre call.now result };
 }
 
 /// A kind of challenger whose makes can mean the same as those of `V`, also where the two are of different Rust types.

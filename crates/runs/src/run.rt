@@ -1,9 +1,9 @@
 // Runs of calls.
-ghost use Rattle.std.specs.Prelude.{◌≡◌, ℕ, ◌≤◌, List, length, take, drop, IfSome, MatchOption};
+ghost use Rattle.std.specs.Prelude.{◌≡◌, ◌≤◌, length, take, drop, IfSome, MatchOption};
 ghost use Rattle.std.specs.Prelude.{IsTrue, IsFalse};
 ghost use Rattle.runs.specs.Runs.{Run, CanBeHeldAlong, party, repeated_calls, calls_instead, kind};
 ghost use Rattle.runs.specs.Runs.{as_list, has_places, Agree};
-ghost use Rattle.runs.specs.Interface.{RefusesChecksAlong};
+ghost use Rattle.runs.specs.Interface.{EachRefusedAsChecksAre};
 
 use crate::{Answer, Call, CanTakeCalls, MadeLike};
 use challenger_traits::Holding;
@@ -15,7 +15,7 @@ pub fn prove_run<C: CanTakeCalls>(c: &mut C, calls: &[Call], said: &mut [Answer]
         (party (C.held_value c.old) said.new (C.held_value c.new)) }
     ensures holds { CanBeHeldAlong (C.rule (C.make c.old)) (C.can_be_held (C.make c.old))
         (C.held_value c.old) calls.now }
-    ensures refusals { RefusesChecksAlong calls.now said.new }
+    ensures refusals { EachRefusedAsChecksAre calls.now said.new }
     ensures make { C.make c.new ≡ C.make c.old }
 {
     for (i, call) in calls.iter().enumerate() {
@@ -50,7 +50,7 @@ pub fn verify_run<C: CanTakeCalls>(
     ensures count { result ≡ length (repeated_calls calls.now proved.now) }
     ensures few { result ≤ length said.new }
     ensures rest { drop result said.new ≡ drop result said.old }
-    ensures refusals { RefusesChecksAlong (repeated_calls calls.now proved.now)
+    ensures refusals { EachRefusedAsChecksAre (repeated_calls calls.now proved.now)
         (take result said.new) }
     ensures make { C.make c.new ≡ C.make c.old }
 {
@@ -88,8 +88,8 @@ pub fn agree<P: MadeLike<V>, V: CanTakeCalls + Holding<Held = P::Held>>(
     ensures count { IfSome result (λ n. n ≡ length (repeated_calls calls.now proved.new)) }
     ensures few { IfSome result (λ n. n ≤ length said.new) }
     ensures rest { IfSome result (λ n. drop n said.new ≡ drop n said.old) }
-    ensures refusals { IfSome result (λ n. RefusesChecksAlong calls.now proved.new
-        × RefusesChecksAlong (repeated_calls calls.now proved.new) (take n said.new)) }
+    ensures refusals { IfSome result (λ n. EachRefusedAsChecksAre calls.now proved.new
+        × EachRefusedAsChecksAre (repeated_calls calls.now proved.new) (take n said.new)) }
     ensures makes { (P.make prover.new ≡ P.make prover.old)
         × (V.make verifier.new ≡ V.make verifier.old) }
 {

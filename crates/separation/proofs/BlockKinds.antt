@@ -21,7 +21,8 @@ use Rattle.code_bits.specs.CodeBits.{code_bits}
 use Rattle.packing.specs.Powers.{limbs}
 use Rattle.packing.specs.Packing.{packed_words}
 use Rattle.packing.specs.PackingProofs.{limbs-some, scalar_fits, packed_words-length, packed_words-injective, packed_words-codes, groups-few}
-use Rattle.separation.specs.Blocks.{Numbers, codes, scalars, words, is_list_of_codes, is_scalars_block, is_block, is_turn, tag_of, words_of, after_given}
+use Rattle.sponge.specs.Tags.{Numbers, codes, scalars, words, tag_of}
+use Rattle.separation.specs.Blocks.{is_list_of_codes, is_scalars_block, is_block, is_turn, words_of, after_given}
 use Rattle.separation.specs.Separation.{is_one_kind, AreUnlike, IsTagRule, turn_under, UnlikeTurnsLeadToUnlikeRows, EachBlockIsWrittenUnderItsTag}
 use Rattle.separation.proofs.Separating.{Blocks, none_apart, blocks_apart}
 use Rattle.refusal.specs.declared.limits.TheConstants.{LONGEST_BATCH, GREATEST_SAMPLED_ORDER}

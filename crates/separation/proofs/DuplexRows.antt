@@ -14,9 +14,10 @@ use Rattle.duplex_challenger.specs.declared.held.DuplexHeld.{DuplexHeld}
 use Rattle.duplex_challenger.specs.Rules.{duplex_held, after_turn, after_code, with_output, sample_of}
 use Rattle.duplex_challenger.specs.Holds.{held_value, make_meaning}
 use Rattle.duplex_challenger.proofs.Prepared.{with_output_is}
-use Rattle.separation.specs.Blocks.{Numbers, codes, scalars, words, is_list_of_codes, is_turn, after_given}
+use Rattle.sponge.specs.Tags.{Numbers, codes, scalars, words}
+use Rattle.separation.specs.Blocks.{is_list_of_codes, is_turn, after_given}
 use Rattle.separation.specs.Separation.{AreUnlike}
-use Rattle.separation.specs.Given.{nothing_left, is_duplex_turn, duplex_takes, duplex_after_given}
+use Rattle.separation.specs.Given.{is_empty_unless_given, is_duplex_turn, duplex_takes, duplex_after_given}
 use Rattle.separation.proofs.BlockKinds.{list_some, list_few, list-words, written, rows_apart}
 use Rattle.separation.proofs.Observed.{observed, none_of}
 
@@ -45,14 +46,14 @@ module _ {D P : Type 0} {order : ℕ} {d : DomainGhosts D order} {p : Permutatio
     none_pending : items s.pending ≡ []
     none_pending = none_of (items s.pending) (and_parts (eqb (length (items s.pending)) 0) _ h).0
 
-    drained_and : nothing_left given (items s.sponge.outputs) && is_duplex_turn order s.sponge.rate given ≡ true
+    drained_and : is_empty_unless_given given (items s.sponge.outputs) && is_duplex_turn order s.sponge.rate given ≡ true
     drained_and = (and_parts (eqb (length (items s.pending)) 0) _ h).1
 
-    drained : nothing_left given (items s.sponge.outputs) ≡ true
-    drained = (and_parts (nothing_left given (items s.sponge.outputs)) _ drained_and).0
+    drained : is_empty_unless_given given (items s.sponge.outputs) ≡ true
+    drained = (and_parts (is_empty_unless_given given (items s.sponge.outputs)) _ drained_and).0
 
     is_given : is_duplex_turn order s.sponge.rate given ≡ true
-    is_given = (and_parts (nothing_left given (items s.sponge.outputs)) _ drained_and).1
+    is_given = (and_parts (is_empty_unless_given given (items s.sponge.outputs)) _ drained_and).1
 
   -- a turn of a duplex challenger is a turn of its sponge
   pub taken-turn : (sampled : ℕ) (given : Option Numbers) → is_duplex_turn order s.sponge.rate given ≡ true → is_turn sampled order s.sponge.rate given ≡ true

@@ -19,9 +19,10 @@ use Rattle.multi_field_challenger.specs.declared.held.MultiHeld.{MultiHeld}
 use Rattle.multi_field_challenger.specs.Rules.{multi_held, after_flush, after_flush_if_pending, after_code, after_digest, after_fill, with_scalar, sample_of}
 use Rattle.multi_field_challenger.specs.Holds.{held_value, make_meaning}
 use Rattle.multi_field_challenger.proofs.Prepared.{with_scalar_is}
-use Rattle.separation.specs.Blocks.{Numbers, codes, scalars, words, is_list_of_codes, is_turn, after_given}
+use Rattle.sponge.specs.Tags.{Numbers, codes, scalars, words}
+use Rattle.separation.specs.Blocks.{is_list_of_codes, is_turn, after_given}
 use Rattle.separation.specs.Separation.{AreUnlike}
-use Rattle.separation.specs.Given.{nothing_left, is_multi_turn, multi_takes, multi_after_given}
+use Rattle.separation.specs.Given.{is_empty_unless_given, is_multi_turn, multi_takes, multi_after_given}
 use Rattle.separation.proofs.BlockKinds.{list_some, list_few, list-words, packed-block, scalars_list, rows_apart}
 use Rattle.separation.proofs.Observed.{observed, none_of}
 use Rattle.refusal.specs.declared.limits.TheConstants.{LONGEST_BATCH}
@@ -86,20 +87,20 @@ module _ {F D P : Type 0} {sampled order : ℕ} {f : DomainGhosts F sampled} {d 
     none_pending : items s.pending ≡ []
     none_pending = none_of (items s.pending) (and_parts (eqb (length (items s.pending)) 0) _ h).0
 
-    outputs_and : nothing_left given (items s.sponge.outputs) && (nothing_left given (items s.squeeze) && is_multi_turn sampled order s.sponge.rate given) ≡ true
+    outputs_and : is_empty_unless_given given (items s.sponge.outputs) && (is_empty_unless_given given (items s.squeeze) && is_multi_turn sampled order s.sponge.rate given) ≡ true
     outputs_and = (and_parts (eqb (length (items s.pending)) 0) _ h).1
 
-    squeeze_and : nothing_left given (items s.squeeze) && is_multi_turn sampled order s.sponge.rate given ≡ true
-    squeeze_and = (and_parts (nothing_left given (items s.sponge.outputs)) _ outputs_and).1
+    squeeze_and : is_empty_unless_given given (items s.squeeze) && is_multi_turn sampled order s.sponge.rate given ≡ true
+    squeeze_and = (and_parts (is_empty_unless_given given (items s.sponge.outputs)) _ outputs_and).1
 
-    outputs_drained : nothing_left given (items s.sponge.outputs) ≡ true
-    outputs_drained = (and_parts (nothing_left given (items s.sponge.outputs)) _ outputs_and).0
+    outputs_drained : is_empty_unless_given given (items s.sponge.outputs) ≡ true
+    outputs_drained = (and_parts (is_empty_unless_given given (items s.sponge.outputs)) _ outputs_and).0
 
-    squeeze_drained : nothing_left given (items s.squeeze) ≡ true
-    squeeze_drained = (and_parts (nothing_left given (items s.squeeze)) _ squeeze_and).0
+    squeeze_drained : is_empty_unless_given given (items s.squeeze) ≡ true
+    squeeze_drained = (and_parts (is_empty_unless_given given (items s.squeeze)) _ squeeze_and).0
 
     is_given : is_multi_turn sampled order s.sponge.rate given ≡ true
-    is_given = (and_parts (nothing_left given (items s.squeeze)) _ squeeze_and).1
+    is_given = (and_parts (is_empty_unless_given given (items s.squeeze)) _ squeeze_and).1
 
   -- a turn of a multi-field challenger is a turn of its sponge
   taken-turn : (given : Option Numbers) → is_multi_turn sampled order s.sponge.rate given ≡ true → is_turn sampled order s.sponge.rate given ≡ true

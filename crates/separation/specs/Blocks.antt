@@ -1,6 +1,7 @@
 -- Blocks: which there are, what each writes and under which tag, and what a turn leaves.
 use Rattle.std.specs.Prelude.{ℕ, ◌*◌, Bool, true, ◌&&◌, List, length, Some, None, Option, nat_le, nat_lt}
 use Rattle.domain.specs.Codes.{all_codes}
+use Rattle.sponge.specs.Tags.{Numbers, codes, scalars, words}
 use Rattle.sponge.specs.Sponge.{SpongeMake, SpongeState, empty_turn, after_turn}
 use Rattle.code_bits.specs.CodeBits.{code_bits}
 use Rattle.packing.specs.Powers.{limbs}
@@ -9,12 +10,6 @@ use Rattle.multi_field_blocks.specs.Blocks.{scalars_block_turn, words_block_turn
 use Rattle.separation.specs.declared.block.Block.{Block}
 use Rattle.separation.specs.declared.block.Block.TheVariants.{Codes, Scalars, Words}
 use Rattle.refusal.specs.declared.limits.TheConstants.{LONGEST_BATCH, GREATEST_SAMPLED_ORDER}
-
--- a block by its kind and its numbers
-pub data Numbers : Type 0 where
-  codes : List ℕ → Numbers
-  scalars : List ℕ → Numbers
-  words : List ℕ → Numbers
 
 -- what is given to a turn, wherever its numbers lie: a block, or none
 abbrev pub numbers_of : Option Block → Option Numbers
@@ -43,12 +38,6 @@ is_block sampled order rate (words xs) = is_list_of_codes order rate xs
 abbrev pub is_turn : (sampled order rate : ℕ) → Option Numbers → Bool
 is_turn sampled order rate None = true
 is_turn sampled order rate (Some block) = is_block sampled order rate block
-
--- the tag of a block: the number of its codes, scalars or words
-abbrev pub tag_of : Numbers → ℕ
-tag_of (codes xs) = length xs
-tag_of (scalars xs) = length xs
-tag_of (words xs) = length xs
 
 -- the words that a block writes: codes and words as they are, scalars packed in groups of limbs
 abbrev pub words_of : (sampled order : ℕ) → Numbers → List ℕ

@@ -1,3 +1,4 @@
+pub use Rattle.sponge.specs.Tags
 pub use Rattle.sponge.specs.Sponge
 pub use Rattle.sponge.specs.SpongeHeld
 pub use Rattle.duplex_challenger.specs.Holds as DuplexHolds

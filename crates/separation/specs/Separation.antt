@@ -2,7 +2,8 @@
 use Rattle.std.specs.Prelude.{◌≡◌, ℕ, ◌<◌, Bool, true, false, ◌≢◌, List, length, Some, None, Option, IsTrue}
 use Rattle.permutation.specs.Rows.{IsRow}
 use Rattle.sponge.specs.Sponge.{SpongeMake, SpongeState, padded_words, block_turn, empty_turn}
-use Rattle.separation.specs.Blocks.{Numbers, codes, scalars, words, is_block, is_turn, tag_of, words_of, after_given}
+use Rattle.sponge.specs.Tags.{Numbers, codes, scalars, words, tag_of}
+use Rattle.separation.specs.Blocks.{is_block, is_turn, words_of, after_given}
 
 -- are both blocks of one kind?
 abbrev pub is_one_kind : Numbers → Numbers → Bool

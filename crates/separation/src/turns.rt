@@ -2,8 +2,10 @@
 ghost use Rattle.std.specs.Prelude.{◌≡◌, ℕ, ◌<◌, ◌≤◌, ◌&&◌, ◌≢◌, if◌then◌else◌, IsTrue};
 ghost use Rattle.sponge.specs.SpongeHeld.{held_value, make_meaning, SameMake};
 ghost use Rattle.sponge.specs.SameSponge.{SameSponge};
-ghost use Rattle.separation.specs.Blocks.{Numbers, numbers_of, is_list_of_codes};
-ghost use Rattle.separation.specs.Blocks.{is_scalars_block, is_turn, tag_of, after_given};
+ghost use Rattle.sponge.specs.Tags.{Numbers};
+ghost use Rattle.separation.specs.Blocks.{numbers_of, is_list_of_codes};
+ghost use Rattle.sponge.specs.Tags.{tag_of};
+ghost use Rattle.separation.specs.Blocks.{is_scalars_block, is_turn, after_given};
 ghost use Rattle.separation.specs.Separation.{AreUnlike, IsTagRule};
 ghost use Rattle.separation.specs.Separation.{turn_under, UnlikeTurnsLeadToUnlikeRows};
 ghost use Rattle.separation.specs.Separation.{EachBlockIsWrittenUnderItsTag};

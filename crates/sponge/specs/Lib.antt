@@ -1,4 +1,5 @@
 pub use Rattle.buffer.specs.Items
+pub mod Tags
 pub mod Sponge
 pub mod SpongeHeld
 pub mod AbsorbingProofs

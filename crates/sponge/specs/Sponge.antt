@@ -1,6 +1,7 @@
 -- What a sponge does: absorb a block under a tag, permute, and give outputs.
 use Rattle.std.specs.Prelude.{ℕ, ◌+◌, ◌-◌, List, [], ◌∷◌, ◌++◌, length, take, drop, replicate, slice_index}
 use Rattle.domain.specs.Arithmetic.{Arithmetic}
+use Rattle.sponge.specs.Tags.{codes, tag_of}
 
 -- what making a sponge fixes: the domain's arithmetic, the permutation's image, WIDTH and RATE
 pub record SpongeMake (order : ℕ) : Type 0 where
@@ -37,10 +38,10 @@ block_turn k row words tag = with_rate_as_outputs k (k.image (row_with_block k r
 abbrev pub empty_turn : {order : ℕ} → SpongeMake order → List ℕ → SpongeState
 empty_turn k row = with_rate_as_outputs k (k.image row)
 
--- a turn with these codes, from this row: they are a block tagged by their number, or no block if there is none
+-- a turn with these codes, from this row: they are a block under its tag, or no block if there is none
 abbrev pub after_turn : {order : ℕ} → SpongeMake order → List ℕ → List ℕ → SpongeState
 after_turn k row [] = empty_turn k row
-after_turn k row (x ∷ xs) = block_turn k row (x ∷ xs) (length (x ∷ xs))
+after_turn k row (x ∷ xs) = block_turn k row (x ∷ xs) (tag_of (codes (x ∷ xs)))
 
 -- outputs are taken from the end
 abbrev pub last_output : List ℕ → ℕ

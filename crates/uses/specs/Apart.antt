@@ -10,7 +10,7 @@ use Rattle.challengers.specs.Sponge.{SpongeMake}
 use Rattle.challengers.specs.SpongeHeld.{parameters_of, meaning_of_make}
 use Rattle.challengers.specs.DuplexRules.{fresh_value as duplex_fresh}
 use Rattle.challengers.specs.MultiFieldRules.{fresh_value as multi_fresh}
-use Rattle.challengers.specs.SeparationBlocks.{Numbers}
+use Rattle.challengers.specs.Tags.{Numbers}
 use Rattle.challengers.specs.Given.{duplex_after_given, multi_after_given}
 use Rattle.uses.specs.BabyBear.{baby_bear_sponge}
 

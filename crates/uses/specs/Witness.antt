@@ -13,8 +13,8 @@ module _ {Held : Type 0} (m : Means Held) where
   observed_and_ground h xs b n = and_then (observe_of (m.after_observe h xs) h) (λ u left. and_then (grind_of m left b n) (λ found after. reply (Ok found.0) after))
 
   -- and a row among 2^rows, drawn after it
-  abbrev pub ground_row : Held → List ℕ → ℕ → ℕ → ℕ → Reply (Result (ℕ × ℕ) Refusal) Held
-  ground_row h xs b n rows = and_then (observed_and_ground h xs b n) (λ w left. and_then (bits_of m.drawing left rows) (λ row after. reply (Ok (w, row)) after))
+  abbrev pub row_after_witness : Held → List ℕ → ℕ → ℕ → ℕ → Reply (Result (ℕ × ℕ) Refusal) Held
+  row_after_witness h xs b n rows = and_then (observed_and_ground h xs b n) (λ w left. and_then (bits_of m.drawing left rows) (λ row after. reply (Ok (w, row)) after))
 
   -- a row among 2^rows, if the check said yes
   abbrev pub row_if : ℕ → Bool → Held → Reply (Result (Option ℕ) Refusal) Held

@@ -15,7 +15,7 @@ mod witness;
 
 pub use agreeing::{play_both, play_both_under_ladder};
 pub use any::field_challenges;
-pub use apart::{Pair, give_both_duplex, give_both_multi_field};
+pub use apart::{Pair, give_both_duplex, give_both_multi_field, turn_both_sponges};
 pub use duplex::{duplex_challenges, duplex_draws, fresh_duplex};
 pub use hash::{fresh_hash, hash_challenges};
 pub use multi_field::{fresh_multi_field, multi_field_challenges, multi_field_draws};

@@ -3,7 +3,7 @@ ghost use Rattle.std.specs.Prelude.{◌≡◌, Some, Ok, Err, IfOk, IfErr};
 ghost use Rattle.challengers.specs.Meaning.{Does, reply};
 ghost use Rattle.challengers.specs.Grinding.{at_make};
 ghost use Rattle.challengers.specs.Ends.{AreAlike};
-ghost use Rattle.uses.specs.Witness.{ground_row, checked_row};
+ghost use Rattle.uses.specs.Witness.{row_after_witness, checked_row};
 ghost use Rattle.uses.specs.Rows.{prover_row, verifier_row};
 
 use challengers::{
@@ -27,7 +27,7 @@ pub fn prove_row<C: GrindingChallenger>(
     budget: u64,
     rows: u64,
 ) -> Result<(u64, u64), Refusal>
-    ensures does { Does C.make C.held_value c.old c.new result (ground_row
+    ensures does { Does C.make C.held_value c.old c.new result (row_after_witness
         (at_make C.after_observe C.drawing C.check_start (C.make c.old)) (C.held_value c.old)
         numbers.now bits budget rows) }
     ensures passes { IfOk result (λ drawn. checked_row
@@ -59,7 +59,7 @@ pub fn verify_row<C: GrindingChallenger>(
 }
 
 /// Both, on two challengers that are alike: the witness passes, and the verifier draws the prover's row.
-fn play<C: GrindingChallenger>(
+fn rehearse<C: GrindingChallenger>(
     ends: &mut Ends<C>,
     numbers: &[u64],
     bits: u64,
@@ -68,11 +68,11 @@ fn play<C: GrindingChallenger>(
 ) -> Result<Session, Refusal>
     requires alike { AreAlike C.make C.held_value ends.old }
     ensures again { IfOk result (λ session. session.again ≡ Some session.row) }
-    ensures proved { IfOk result (λ session. (ground_row
+    ensures proved { IfOk result (λ session. (row_after_witness
         (at_make C.after_observe C.drawing C.check_start (C.make ends.old.prover))
         (C.held_value ends.old.prover) numbers.now bits budget rows).said
         ≡ Ok (session.witness, session.row)) }
-    ensures refused { IfErr result (λ e. (ground_row
+    ensures refused { IfErr result (λ e. (row_after_witness
         (at_make C.after_observe C.drawing C.check_start (C.make ends.old.prover))
         (C.held_value ends.old.prover) numbers.now bits budget rows).said ≡ Err e) }
     ensures checked { IfOk result (λ session. (checked_row
@@ -99,5 +99,5 @@ pub fn rehearse_row(permutation: Permutation, numbers: &[u64]) -> Result<Session
         session.witness ≡ Ok session.again) }
 {
     let mut ends = duplex_ends::<BabyBear, BABY_BEAR_ORDER>(16, 8, permutation)?;
-    play(&mut ends, numbers, 8, 10000, 10)
+    rehearse(&mut ends, numbers, 8, 10000, 10)
 }

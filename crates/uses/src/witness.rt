@@ -1,5 +1,5 @@
 // A witness ground and checked, by any challenger that grinds.
-ghost use Rattle.std.specs.Prelude.{◌≡◌, true, Ok, Err, IfOk, IfErr};
+ghost use Rattle.std.specs.Prelude.{◌≡◌, true, Ok, Err, IsOk, IfOk, IfErr};
 ghost use Rattle.challengers.specs.Meaning.{Does, reply};
 ghost use Rattle.challengers.specs.Grinding.{at_make};
 ghost use Rattle.uses.specs.Witness.{observed_and_checked, observed_and_ground};
@@ -53,6 +53,8 @@ pub fn prove_and_verify<C: GrindingChallenger + Copy>(
     ensures refused { IfErr result (λ e. (observed_and_ground (at_make C.after_observe C.drawing
         C.check_start (C.make prover.old)) (C.held_value prover.old) numbers.now bits budget).said
         ≡ Err e) }
+    ensures found { IfOk result (λ _. IsOk (observed_and_ground (at_make C.after_observe C.drawing
+        C.check_start (C.make prover.old)) (C.held_value prover.old) numbers.now bits budget).said) }
     ensures agree { IfOk result (λ seen. (seen.0 ≡ true) × (C.make seen.1 ≡ C.make prover.new)
         × (C.held_value seen.1 ≡ C.held_value prover.new)) }
 {

@@ -1,6 +1,7 @@
 use Rattle.std.proofs.Common.{◌≡◌, ℕ, Bool, true, Option, sym, ap, ◌∙◌}
 use Rattle.sponge.specs.Sponge.{SpongeState}
-use Rattle.separation.specs.Blocks.{Numbers, numbers_of, is_turn}
+use Rattle.sponge.specs.Tags.{Numbers}
+use Rattle.separation.specs.Blocks.{numbers_of, is_turn}
 use Rattle.separation.proofs.BlockKinds.{sponge_tags, sponge_separates, sponge_turns_separate, rows_apart}
 use Rattle.separation.proofs.turns.turn_both.Goals as goal
 

@@ -1,18 +1,23 @@
 -- Two challengers made alike under one of the permutations: what they hold fresh, and once a block or none was given to them.
-use Rattle.std.specs.Prelude.{Option}
+use Rattle.std.specs.Prelude.{[], replicate, Option}
 use Rattle.challengers.specs.Permutation.{Permutation}
 use Rattle.challengers.specs.DuplexHeld.{DuplexHeld}
 use Rattle.challengers.specs.MultiHeld.{MultiHeld}
 use Rattle.challengers.specs.Orders.{BABY_BEAR_ORDER, GOLDILOCKS_ORDER}
 use Rattle.challengers.specs.Modular.{goldilocks}
 use Rattle.challengers.specs.PermutationChoice.{image}
-use Rattle.challengers.specs.Sponge.{SpongeMake}
+use Rattle.challengers.specs.Sponge.{SpongeMake, SpongeState, sponge_state}
 use Rattle.challengers.specs.SpongeHeld.{parameters_of, meaning_of_make}
 use Rattle.challengers.specs.DuplexRules.{fresh_value as duplex_fresh}
 use Rattle.challengers.specs.MultiFieldRules.{fresh_value as multi_fresh}
 use Rattle.challengers.specs.Tags.{Numbers}
+use Rattle.challengers.specs.SeparationBlocks.{after_given}
 use Rattle.challengers.specs.Given.{duplex_after_given, multi_after_given}
 use Rattle.uses.specs.BabyBear.{baby_bear_sponge}
+
+-- what such a sponge holds fresh
+abbrev pub made_sponge : SpongeState
+made_sponge = sponge_state (replicate 16 0) []
 
 module _ (permutation : Permutation) where
   -- what making the duplex challengers fixes: 16 cells, of which the first 8 are the rate, over BabyBear
@@ -38,3 +43,7 @@ module _ (permutation : Permutation) where
   -- what a fresh one holds once this was given to it
   abbrev pub given_multi : Option Numbers → MultiHeld
   given_multi given = multi_after_given BABY_BEAR_ORDER multi_sponge made_multi given
+
+  -- what a sponge of 16 cells over BabyBear, with a rate of 8, holds after a turn with this
+  abbrev pub turned_sponge : Option Numbers → SpongeState
+  turned_sponge given = after_given BABY_BEAR_ORDER duplex_sponge made_sponge.row given

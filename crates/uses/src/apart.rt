@@ -1,13 +1,15 @@
 // Two challengers made alike, each given a block or none: unlike blocks leave them with unlike rows.
 ghost use Rattle.std.specs.Prelude.{◌≡◌, ◌&&◌, ◌≢◌, if◌then◌else◌, IsTrue, IsOk, IfOk};
 ghost use Rattle.challengers.specs.Orders.{BABY_BEAR_ORDER, GOLDILOCKS_ORDER};
-ghost use Rattle.challengers.specs.SpongeHeld.{parameters_of, held_value as sponge_held};
+ghost use Rattle.challengers.specs.SpongeHeld.{parameters_of, make as sponge_make};
+ghost use Rattle.challengers.specs.SpongeHeld.{held_value as sponge_held};
 ghost use Rattle.challengers.specs.DuplexHolds.{make as duplex_make, held_value as duplex_held};
 ghost use Rattle.challengers.specs.MultiFieldHolds.{make as multi_make, held_value as multi_held};
 ghost use Rattle.challengers.specs.SeparationBlocks.{numbers_of, is_turn};
 ghost use Rattle.challengers.specs.Separation.{AreUnlike};
 ghost use Rattle.challengers.specs.Given.{is_duplex_turn, is_multi_turn};
 ghost use Rattle.uses.specs.Apart.{made_duplex, given_duplex, made_multi, given_multi};
+ghost use Rattle.uses.specs.Apart.{made_sponge, turned_sponge};
 
 use challengers::{
     BABY_BEAR_ORDER, BabyBear, BabyBearDuplex, BabyBearInGoldilocks, Block, GOLDILOCKS_ORDER,
@@ -98,6 +100,12 @@ pub fn turn_both_sponges(
     ensures apart { IfOk result (λ p. IsTrue p.given
         → AreUnlike (numbers_of left.entry) (numbers_of right.entry)
         → (sponge_held p.first).row ≢ (sponge_held p.second).row) }
+    ensures first { IfOk result (λ p. sponge_held p.first ≡ (if p.given
+        then turned_sponge permutation (numbers_of left.entry) else made_sponge)) }
+    ensures second { IfOk result (λ p. sponge_held p.second ≡ (if p.given
+        then turned_sponge permutation (numbers_of right.entry) else made_sponge)) }
+    ensures makes { IfOk result (λ p. (sponge_make p.first ≡ parameters_of 16 8 permutation)
+        × (sponge_make p.second ≡ parameters_of 16 8 permutation)) }
 {
     let mut first = Sponge::<BabyBear, Permutation, BABY_BEAR_ORDER>::new(16, 8, permutation)?;
     let mut second = Sponge::<BabyBear, Permutation, BABY_BEAR_ORDER>::new(16, 8, permutation)?;

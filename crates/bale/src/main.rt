@@ -1,7 +1,8 @@
 //! A bale's transcript by library calls alone: the prover's answers beside the verifier's, and a row drawn by both.
 #![tactic(auto)]
 
-ghost use Rattle.std.specs.Prelude.{◌≡◌, Some, IfOk};
+ghost use Rattle.std.specs.Prelude.{◌≡◌, Some, Ok, IfOk};
+ghost use Rattle.uses.specs.Rows.{prover_row};
 
 use anyhow::Result;
 use challengers::{Answer, Call, Ladder, Permutation};
@@ -20,11 +21,13 @@ fn permutation() -> Result<Permutation> {
     Ok(Permutation::Ladder(Ladder::new(8)?))
 }
 
-/// A row of the log, drawn after a witness: the verifier draws the prover's.
-fn session() -> Result<Session>
-    ensures { IfOk result (λ session. session.again ≡ Some session.row) }
+/// A row of the log, drawn after the numbers and a witness: the verifier draws the prover's.
+fn session(permutation: Permutation, numbers: &[u64]) -> Result<Session>
+    ensures again { IfOk result (λ session. session.again ≡ Some session.row) }
+    ensures proved { IfOk result (λ session. prover_row permutation numbers.now
+        ≡ Ok (session.witness, session.row)) }
 {
-    let session = rehearse_row(permutation()?, &PURITY)?;
+    let session = rehearse_row(permutation, numbers)?;
     Ok(session)
 }
 
@@ -50,7 +53,7 @@ fn main(rt: HostRuntime) -> Result<()> {
     for answer in said.iter().take(rehearsal.count.unwrap_or(0)) {
         println!(rt; "verifier  {answer}")?;
     }
-    let session = session()?;
+    let session = session(permutation()?, &PURITY)?;
     println!(rt; "witness   {}", session.witness)?;
     println!(rt; "row       {}", session.row)?;
     println!(rt; "again     {}", session.again == Some(session.row))?;

@@ -1,4 +1,4 @@
--- Two challengers made alike under one of the permutations: what they hold fresh, and once a block or none was given to them.
+-- Two challengers, or two sponges, made alike under one of the permutations: what they hold fresh, and once a block or none was given to them.
 use Rattle.std.specs.Prelude.{[], replicate, Option}
 use Rattle.challengers.specs.Permutation.{Permutation}
 use Rattle.challengers.specs.DuplexHeld.{DuplexHeld}
@@ -15,9 +15,9 @@ use Rattle.challengers.specs.SeparationBlocks.{after_given}
 use Rattle.challengers.specs.Given.{duplex_after_given, multi_after_given}
 use Rattle.uses.specs.BabyBear.{baby_bear_sponge}
 
--- what such a sponge holds fresh
+-- what a sponge of 8 cells holds fresh
 abbrev pub made_sponge : SpongeState
-made_sponge = sponge_state (replicate 16 0) []
+made_sponge = sponge_state (replicate 8 0) []
 
 module _ (permutation : Permutation) where
   -- what making the duplex challengers fixes: 16 cells, of which the first 8 are the rate, over BabyBear
@@ -32,7 +32,7 @@ module _ (permutation : Permutation) where
   abbrev pub given_duplex : Option Numbers → DuplexHeld
   given_duplex given = duplex_after_given duplex_sponge made_duplex given
 
-  -- what making the multi-field challengers fixes: 8 cells, of which the first 4 are the rate, over Goldilocks
+  -- what making the multi-field challengers and the sponges fixes: 8 cells, of which the first 4 are the rate, over Goldilocks
   abbrev pub multi_sponge : SpongeMake GOLDILOCKS_ORDER
   multi_sponge = meaning_of_make goldilocks (image goldilocks) (parameters_of 8 4 permutation)
 
@@ -44,6 +44,6 @@ module _ (permutation : Permutation) where
   abbrev pub given_multi : Option Numbers → MultiHeld
   given_multi given = multi_after_given BABY_BEAR_ORDER multi_sponge made_multi given
 
-  -- what a sponge of 16 cells over BabyBear, with a rate of 8, holds after a turn with this
+  -- what a sponge made so holds after a turn with this, of codes, of words or of scalars of BabyBear
   abbrev pub turned_sponge : Option Numbers → SpongeState
-  turned_sponge given = after_given BABY_BEAR_ORDER duplex_sponge made_sponge.row given
+  turned_sponge given = after_given BABY_BEAR_ORDER multi_sponge made_sponge.row given

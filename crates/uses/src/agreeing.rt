@@ -27,7 +27,7 @@ pub fn play_both(
     agree_duplex::<BabyBear, BABY_BEAR_ORDER>(16, 8, permutation, calls, proved, said)
 }
 
-/// The same under a permutation of the caller's own type: it makes both ends, and calls are played on them as they are.
+/// The same over another type than `Permutation`: both ends are made here, and the calls are played on them as they are.
 pub fn play_both_under_ladder(
     ladder: Ladder,
     calls: &[Call],

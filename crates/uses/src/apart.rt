@@ -1,4 +1,4 @@
-// Two challengers made alike, each given a block or none: unlike blocks leave them with unlike rows.
+// Two challengers or two sponges made alike, each given a block or none: unlike blocks leave them with unlike rows.
 ghost use Rattle.std.specs.Prelude.{◌≡◌, ◌&&◌, ◌≢◌, if◌then◌else◌, IsTrue, IsOk, IfOk};
 ghost use Rattle.challengers.specs.Orders.{BABY_BEAR_ORDER, GOLDILOCKS_ORDER};
 ghost use Rattle.challengers.specs.SpongeHeld.{parameters_of, make as sponge_make};
@@ -87,16 +87,16 @@ pub fn give_both_multi_field(
     })
 }
 
-/// Makes two sponges alike, over BabyBear, and gives each a turn, with a block or with none; they stay as made if one of the two is no block of theirs.
+/// Makes two sponges alike, over Goldilocks, and gives each a turn, with a block of codes, of words or of scalars of BabyBear, or with none; they stay as made if one of the two is no block of theirs.
 pub fn turn_both_sponges(
     permutation: Permutation,
     left: Option<Block>,
     right: Option<Block>,
-) -> Result<Pair<Sponge<BabyBear, Permutation, BABY_BEAR_ORDER>>, Refusal>
+) -> Result<Pair<Sponge<Goldilocks, Permutation, GOLDILOCKS_ORDER>>, Refusal>
     ensures made { IsOk result }
     ensures answer { IfOk result (λ p. p.given
-        ≡ (is_turn BABY_BEAR_ORDER BABY_BEAR_ORDER 8 (numbers_of left.entry)
-        && is_turn BABY_BEAR_ORDER BABY_BEAR_ORDER 8 (numbers_of right.entry))) }
+        ≡ (is_turn BABY_BEAR_ORDER GOLDILOCKS_ORDER 4 (numbers_of left.entry)
+        && is_turn BABY_BEAR_ORDER GOLDILOCKS_ORDER 4 (numbers_of right.entry))) }
     ensures apart { IfOk result (λ p. IsTrue p.given
         → AreUnlike (numbers_of left.entry) (numbers_of right.entry)
         → (sponge_held p.first).row ≢ (sponge_held p.second).row) }
@@ -104,19 +104,19 @@ pub fn turn_both_sponges(
         then turned_sponge permutation (numbers_of left.entry) else made_sponge)) }
     ensures second { IfOk result (λ p. sponge_held p.second ≡ (if p.given
         then turned_sponge permutation (numbers_of right.entry) else made_sponge)) }
-    ensures makes { IfOk result (λ p. (sponge_make p.first ≡ parameters_of 16 8 permutation)
-        × (sponge_make p.second ≡ parameters_of 16 8 permutation)) }
+    ensures makes { IfOk result (λ p. (sponge_make p.first ≡ parameters_of 8 4 permutation)
+        × (sponge_make p.second ≡ parameters_of 8 4 permutation)) }
 {
-    let mut first = Sponge::<BabyBear, Permutation, BABY_BEAR_ORDER>::new(16, 8, permutation)?;
-    let mut second = Sponge::<BabyBear, Permutation, BABY_BEAR_ORDER>::new(16, 8, permutation)?;
+    let mut first = Sponge::<Goldilocks, Permutation, GOLDILOCKS_ORDER>::new(8, 4, permutation)?;
+    let mut second = Sponge::<Goldilocks, Permutation, GOLDILOCKS_ORDER>::new(8, 4, permutation)?;
     let given = turn_both::<
         BabyBear,
-        BabyBear,
+        Goldilocks,
         Permutation,
-        BabyBear,
+        Goldilocks,
         Permutation,
         BABY_BEAR_ORDER,
-        BABY_BEAR_ORDER,
+        GOLDILOCKS_ORDER,
     >(&mut first, &mut second, left, right);
     Ok(Pair {
         first,

@@ -73,7 +73,7 @@ pub record WorkedCases : Type 0 where
   pub bits : duplex_answers (baby_bear_mirror 3 2) (SampleBits 30 ∷ SampleBits 31 ∷ []) ≡ Bits 0 ∷ Refused BitsNo ∷ []
   -- a grind of 3 bits within 3 gives 2 after 3 trials, and the row 40, 6; within 2 it gets 25 with 2 trials
   pub ground : duplex_answers bytes_ladder (Grind 3 3 ∷ []) ≡ Ground 2 3 ∷ []
-  pub row_after_witness : (duplex_value bytes_ladder (Grind 3 3 ∷ [])).row ≡ 40 ∷ 6 ∷ []
+  pub ground_row : (duplex_value bytes_ladder (Grind 3 3 ∷ [])).row ≡ 40 ∷ 6 ∷ []
   pub budget : duplex_answers bytes_ladder (Grind 3 2 ∷ []) ≡ Refused (NoWitness 2) ∷ []
   -- a grind of 1 bit within 100 gets 25
   pub vain : duplex_answers (baby_bear_mirror 2 1) (Grind 1 100 ∷ []) ≡ Refused (NoWitness 100) ∷ []

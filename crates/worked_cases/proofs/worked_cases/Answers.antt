@@ -14,4 +14,4 @@ use Rattle.worked_cases.proofs.worked_cases.Goals as goal
 
 pub returns : goal.returns
 unfolding row_with_block first check_of grind_of code_bits greatest_power limbs packed_words pack with_outputs ladder_step part_of parts_of uniform_of word after_turn after_code with_output sample_of multi.after_flush multi.after_flush_if_pending multi.after_code multi.after_digest multi.after_fill multi.with_scalar multi.sample_of
-returns c = record { samples = refl; sample = refl; row = refl; uniform = refl; bits = refl; ground = refl; row_after_witness = refl; budget = refl; vain = refl; scalars = refl; one_row = refl; word = refl; output = refl; batch = refl; long_batch = refl; too_wide = refl }
+returns c = record { samples = refl; sample = refl; row = refl; uniform = refl; bits = refl; ground = refl; ground_row = refl; budget = refl; vain = refl; scalars = refl; one_row = refl; word = refl; output = refl; batch = refl; long_batch = refl; too_wide = refl }

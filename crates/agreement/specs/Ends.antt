@@ -61,21 +61,24 @@ module _ {Held : Type 0} (prover verifier : Rule Held) (p₀ v₀ p₁ v₁ : He
 abbrev pub AgreeIfPlayed : {Held : Type 0} (p₀ v₀ p₁ v₁ : Held) → List Call → Slices → Option ℕ → Type 0
 AgreeIfPlayed p₀ v₀ p₁ v₁ calls after count = IfSome count (λ n. Agree calls (party p₀ after.proved p₁) (party v₀ (take n after.said) v₁))
 
--- both ends were made with k and held what such a challenger holds when it is made; then the calls were played on them, or nothing moved
-pub record Agreed {C Make Held : Type 0} (make : C → Make) (held : C → Held) (rule : Make → Rule Held) (fresh : Make → Held) (k : Make) (calls : List Call) (before after : Slices) (r : Rehearsal C) : Type 0 where
-  pub prover_make : make r.ends.prover ≡ k
-  pub verifier_make : make r.ends.verifier ≡ k
-  pub played : PlayedIfPlaces (rule k) (rule k) (fresh k) (fresh k) (held r.ends.prover) (held r.ends.verifier) calls before after r.count
-  pub agree : AgreeIfPlayed (fresh k) (fresh k) (held r.ends.prover) (held r.ends.verifier) calls after r.count
+-- two ends, perhaps of two Rust types: both makes mean k, and both held what such a challenger holds when it is made; then the calls were played on them, or nothing moved
+pub record EndsAgree {P V Meaning Held : Type 0} (meaning : P → Meaning) (other_meaning : V → Meaning) (held : P → Held) (other_held : V → Held)
+    (rule : Meaning → Rule Held) (fresh : Meaning → Held) (k : Meaning) (calls : List Call) (before after : Slices)
+    (prover : P) (verifier : V) (count : Option ℕ) : Type 0 where
+  pub prover_make : meaning prover ≡ k
+  pub verifier_make : other_meaning verifier ≡ k
+  pub played : PlayedIfPlaces (rule k) (rule k) (fresh k) (fresh k) (held prover) (other_held verifier) calls before after count
+  pub agree : AgreeIfPlayed (fresh k) (fresh k) (held prover) (other_held verifier) calls after count
+
+-- of ends of one type, which were both made with k
+abbrev pub Agreed : {C Make Held : Type 0} → (C → Make) → (C → Held) → (Make → Rule Held) → (Make → Held) → Make → List Call → (before after : Slices) → Rehearsal C → Type 0
+Agreed make held rule fresh k calls before after r = EndsAgree make make held held rule fresh k calls before after r.ends.prover r.ends.verifier r.count
+
+-- of ends of two types, whose makes both mean k
+abbrev pub AgreedAcross : {P V Meaning Held : Type 0} → (P → Meaning) → (V → Meaning) → (P → Held) → (V → Held) → (Meaning → Rule Held) → (Meaning → Held) → Meaning → List Call → (before after : Slices) → Across P V → Type 0
+AgreedAcross meaning other_meaning held other_held rule fresh k calls before after a =
+    EndsAgree meaning other_meaning held other_held rule fresh k calls before after a.prover a.verifier a.count
 
 -- a make was refused: no slice moved
 abbrev pub SlicesStay : {Made : Type 0} → Slices → Slices → Result Made Refusal → Type 0
 SlicesStay before after result = IfErr result (λ _. after ≡ before)
-
--- of ends of two Rust types: both makes mean k, and both ends held what such a challenger holds when it is made; then the calls were played on them, or nothing moved
-pub record AgreedAcross {P V Meaning Held : Type 0} (meaning : P → Meaning) (other_meaning : V → Meaning) (held : P → Held) (other_held : V → Held)
-    (rule : Meaning → Rule Held) (fresh : Meaning → Held) (k : Meaning) (calls : List Call) (before after : Slices) (a : Across P V) : Type 0 where
-  pub prover_make : meaning a.prover ≡ k
-  pub verifier_make : other_meaning a.verifier ≡ k
-  pub played : PlayedIfPlaces (rule k) (rule k) (fresh k) (fresh k) (held a.prover) (other_held a.verifier) calls before after a.count
-  pub agree : AgreeIfPlayed (fresh k) (fresh k) (held a.prover) (other_held a.verifier) calls after a.count

@@ -8,7 +8,9 @@ mod hash;
 mod multi_field;
 mod serializing;
 
-pub use across::{Across, agree_across_hashers, agree_across_permutations};
+pub use across::{
+    Across, ByteMirror, agree_across_hashers, agree_across_permutations, agree_across_transcripts,
+};
 pub use duplex::{agree_duplex, agree_duplex_of_one_make, duplex_ends};
 pub use ends::{Ends, Rehearsal};
 pub use hash::{agree_hash, agree_hash_of_one_make, hash_ends};

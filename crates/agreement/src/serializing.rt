@@ -23,7 +23,7 @@ use crate::ends::play;
 use crate::{Ends, Rehearsal, duplex_ends, hash_ends};
 use byte_transcript::ByteGrindingChallenger;
 use challenger_traits::Holding;
-use domain::{Bytes, Domain};
+use domain::{BYTES_ORDER, Bytes, Domain};
 use duplex_challenger::DuplexChallenger;
 use hash_challenger::HashChallenger;
 use hashers::Hasher;
@@ -33,7 +33,7 @@ use runs::{Answer, Call};
 use serializing_challenger::SerializingChallenger32;
 
 /// The duplex challenger over bytes.
-pub type ByteDuplex = DuplexChallenger<Bytes, Permutation, 256>;
+pub type ByteDuplex = DuplexChallenger<Bytes, Permutation, BYTES_ORDER>;
 
 /// Both ends as serializing challengers over duplex challengers over bytes, made from the same WIDTH, RATE and permutation.
 pub fn serializing_duplex_ends<D: Domain<ORDER>, const ORDER: u64>(
@@ -45,7 +45,7 @@ pub fn serializing_duplex_ends<D: Domain<ORDER>, const ORDER: u64>(
         (λ ends. IsDuplexFresh width rate permutation ends.prover.inner
         × IsDuplexFresh width rate permutation ends.verifier.inner) result }
 {
-    let below = duplex_ends::<Bytes, 256>(width, rate, permutation)?;
+    let below = duplex_ends::<Bytes, BYTES_ORDER>(width, rate, permutation)?;
     let prover = SerializingChallenger32::new(below.prover)?;
     let verifier = SerializingChallenger32::new(below.verifier)?;
     Ok(Ends { prover, verifier })

@@ -1,4 +1,4 @@
-//! A bale's transcript by library calls alone: the prover's answers beside the verifier's, and a row drawn by both.
+//! A bale's transcript by library calls alone: the prover's answers beside the verifier's, a row drawn by both, and a witness ground and checked over SHA-256.
 #![tactic(auto)]
 
 ghost use Rattle.std.specs.Prelude.{◌≡◌, Some, Ok, IfOk};
@@ -6,22 +6,20 @@ ghost use Rattle.uses.specs.Rows.{prover_row};
 
 use anyhow::Result;
 use challengers::{Answer, Call, Ladder, Permutation};
-use uses::{Session, play_both, rehearse_row};
+use uses::{Session, fresh_serializing, play_both, prove_and_verify, rehearse_row};
 
-/// The commitment to the bale's eject log.
-const COMMITMENT: [u64; 8] = [
+/// What the bale's challenger observes: the commitment to the eject log, of eight numbers, and the purity printed on the bale, 9973 of 10000.
+const OBSERVED: [u64; 10] = [
     1482915306, 27781934, 903345871, 1720036412, 611290045, 1999001234, 340781256, 1187654321,
+    9973, 10000,
 ];
-
-/// The purity printed on the bale, 9973 of 10000.
-const PURITY: [u64; 2] = [9973, 10000];
 
 /// The permutation of the bale's challenger.
 fn permutation() -> Result<Permutation> {
     Ok(Permutation::Ladder(Ladder::new(8)?))
 }
 
-/// A row of the log, drawn after the numbers and a witness: the verifier draws the prover's.
+/// A row of the log, drawn after all that was observed and a witness: the verifier draws the prover's.
 fn session(permutation: Permutation, numbers: &[u64]) -> Result<Session>
     ensures again { IfOk result (λ session. session.again ≡ Some session.row) }
     ensures proved { IfOk result (λ session. prover_row permutation numbers.now
@@ -33,8 +31,8 @@ fn session(permutation: Permutation, numbers: &[u64]) -> Result<Session>
 
 fn main(rt: HostRuntime) -> Result<()> {
     let calls = [
-        Call::ObserveDigest(&COMMITMENT),
-        Call::Observe(&PURITY),
+        Call::ObserveDigest(&OBSERVED[..8]),
+        Call::Observe(&OBSERVED[8..]),
         Call::Grind(9, 100000),
         Call::Sample,
         Call::Sample,
@@ -53,9 +51,12 @@ fn main(rt: HostRuntime) -> Result<()> {
     for answer in said.iter().take(rehearsal.count.unwrap_or(0)) {
         println!(rt; "verifier  {answer}")?;
     }
-    let session = session(permutation()?, &PURITY)?;
+    let session = session(permutation()?, &OBSERVED)?;
     println!(rt; "witness   {}", session.witness)?;
     println!(rt; "row       {}", session.row)?;
     println!(rt; "again     {}", session.again == Some(session.row))?;
+    let mut prover = fresh_serializing(&[])?;
+    let (yes, _) = prove_and_verify(&mut prover, &OBSERVED, 8, 10000)?;
+    println!(rt; "sha-256   {yes}")?;
     Ok(())
 }

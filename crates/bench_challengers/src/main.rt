@@ -2,7 +2,7 @@
 #![tactic(auto)]
 
 use challenger_traits::{CanFinalizeDigest, CanObserve, GrindingChallenger};
-use domain::{BabyBear, Bytes, Goldilocks};
+use domain::{BABY_BEAR_ORDER, BYTES_ORDER, BabyBear, Bytes, GOLDILOCKS_ORDER, Goldilocks};
 use duplex_challenger::DuplexChallenger;
 use hash_challenger::HashChallenger;
 use multi_field_challenger::MultiField32Challenger;
@@ -13,16 +13,16 @@ use sha256::Sha256;
 use std::alloc::{AllocError, Global};
 use std::{env, io};
 
-type Codes = DuplexChallenger<BabyBear, Ladder, 2013265921>;
+type Codes = DuplexChallenger<BabyBear, Ladder, BABY_BEAR_ORDER>;
 
-type Wide = MultiField32Challenger<BabyBear, Goldilocks, Ladder, 2013265921, 18446744069414584321>;
+type Wide = MultiField32Challenger<BabyBear, Goldilocks, Ladder, BABY_BEAR_ORDER, GOLDILOCKS_ORDER>;
 
-type OverHash = SerializingChallenger32<BabyBear, HashChallenger<Sha256, 32>, 2013265921>;
+type OverHash = SerializingChallenger32<BabyBear, HashChallenger<Sha256, 32>, BABY_BEAR_ORDER>;
 
 type OverBytes = SerializingChallenger32<
     BabyBear,
-    DuplexChallenger<Bytes, Ladder, 256>,
-    2013265921,
+    DuplexChallenger<Bytes, Ladder, BYTES_ORDER>,
+    BABY_BEAR_ORDER,
 >;
 
 /// What is timed of each challenger, beside observing and grinding.
@@ -76,7 +76,7 @@ impl Timed for OverBytes {
 
 /// The input of a number.
 fn value(i: u64) -> u64 {
-    i.wrapping_add(1).wrapping_mul(11400714819323198485) % 2013265921
+    i.wrapping_add(1).wrapping_mul(11400714819323198485) % BABY_BEAR_ORDER
 }
 
 /// So many inputs, from a number on.
@@ -155,7 +155,7 @@ fn play<C: Timed + Copy>(heap: Global, fresh: &C, row: &str) -> Result<u64, Allo
         "observe" => observe(heap, fresh),
         "room" => observe_in_room(heap, fresh),
         "sample" => sample(heap, fresh),
-        "grind" => grind(heap, fresh, 16, 2013265921),
+        "grind" => grind(heap, fresh, 16, BABY_BEAR_ORDER),
         "search" => grind(heap, fresh, 12, 20000),
         "finalize" => finalize(heap, fresh),
         _ => Ok(0),

@@ -9,6 +9,9 @@ pub use Rattle.hash_state.specs.declared.held.HashHeld
 pub use Rattle.permutation.specs.declared.choice.Permutation
 pub use Rattle.sponge.specs.declared.parameters.Parameters
 pub use Rattle.permutation.specs.declared.ladder.Ladder as LadderType
+pub use Rattle.permutation.specs.declared.mirror.Mirror as MirrorType
+pub use Rattle.sha256.specs.declared.as_hasher.Sha256 as Sha256Type
+pub use Rattle.sha3.specs.declared.Sha3_256 as Sha3Type
 pub use Rattle.separation.specs.declared.block.Block
 pub use Rattle.agreement.specs.declared.ends.Ends as EndsType
 pub use Rattle.agreement.specs.declared.ends.Rehearsal
@@ -18,6 +21,8 @@ pub use Rattle.refusal.specs.Made
 pub use Rattle.refusal.specs.Spoken as RefusalSpoken
 pub use Rattle.domain.specs.declared.orders.TheConstants as Orders
 pub use Rattle.refusal.specs.declared.limits.TheConstants as Limits
+pub use Rattle.buffer.specs.declared.TheConstants as BufferLimits
+pub use Rattle.hasher.specs.declared.TheConstants as HasherLimits
 pub use Rattle.domain.specs.Arithmetic
 pub use Rattle.domain.specs.Modular
 pub use Rattle.domain.specs.SameArithmetic
@@ -50,6 +55,7 @@ pub use Rattle.hasher.specs.Hashing
 pub use Rattle.hasher.specs.SameDigests
 pub use Rattle.hashers.specs.Choice as HasherChoice
 pub use Rattle.sha256.specs.Sha256
+pub use Rattle.sha3.specs.Sha3
 pub use Rattle.duplex_challenger.specs.Rules as DuplexRules
 pub use Rattle.duplex_challenger.specs.Holds as DuplexHolds
 pub use Rattle.duplex_challenger.specs.Calls as DuplexCalls

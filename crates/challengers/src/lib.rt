@@ -4,11 +4,11 @@
 mod usual;
 
 pub use agreement::{
-    Across, Ends, Rehearsal, agree_across_hashers, agree_across_permutations, agree_duplex,
-    agree_duplex_of_one_make, agree_hash, agree_hash_of_one_make, agree_multi_field,
-    agree_multi_field_of_one_make, agree_serializing_duplex, agree_serializing_hash,
-    agree_serializing_of_one_make, duplex_ends, hash_ends, multi_field_ends,
-    serializing_duplex_ends, serializing_hash_ends,
+    Across, ByteDuplex, ByteMirror, Ends, Rehearsal, agree_across_hashers,
+    agree_across_permutations, agree_across_transcripts, agree_duplex, agree_duplex_of_one_make,
+    agree_hash, agree_hash_of_one_make, agree_multi_field, agree_multi_field_of_one_make,
+    agree_serializing_duplex, agree_serializing_hash, agree_serializing_of_one_make, duplex_ends,
+    hash_ends, multi_field_ends, serializing_duplex_ends, serializing_hash_ends,
 };
 pub use buffer::Buffer;
 pub use byte_transcript::{ByteGrindingChallenger, ByteTranscript, CanFinalizeTranscript};
@@ -34,6 +34,7 @@ pub use runs::{
 };
 pub use separation::{Block, observe_both_duplex, observe_both_multi_field, turn_both};
 pub use serializing_challenger::SerializingChallenger32;
+pub use sha3::Sha3_256;
 pub use sha256::Sha256;
 pub use sponge::{Parameters, Sponge};
 pub use usual::{

@@ -14,7 +14,10 @@ ghost use Rattle.parts.specs.Scripts.{serial_duplex_made, serial_hash_made_over,
 ghost use Rattle.parts.specs.Scripts.{read_part, script as script_of};
 
 use agreement::Ends;
-use domain::{BabyBear, Bytes, Domain, Goldilocks, KoalaBear};
+use domain::{
+    BABY_BEAR_ORDER, BYTES_ORDER, BabyBear, Bytes, Domain, GOLDILOCKS_ORDER, Goldilocks,
+    KOALA_BEAR_ORDER, KoalaBear,
+};
 use played::{Played, make_duplex, make_hash, make_multi, make_serial_duplex, make_serial_hash};
 use refusal::Refusal;
 use rehearsal::lines::{Mark, Numbered, Part, split_before};
@@ -79,19 +82,23 @@ fn begin_duplex<P: Playing>(
         ≡ P.text player.old ++ made_part P.way (duplex_made domain asked.now) (part_of part.now)) }
 {
     match domain {
-        DomainName::Bytes => begin_or_refuse(make_duplex::<Bytes, 256>(asked), part, player),
+        DomainName::Bytes => begin_or_refuse(
+            make_duplex::<Bytes, BYTES_ORDER>(asked),
+            part,
+            player,
+        ),
         DomainName::BabyBear => begin_or_refuse(
-            make_duplex::<BabyBear, 2013265921>(asked),
+            make_duplex::<BabyBear, BABY_BEAR_ORDER>(asked),
             part,
             player,
         ),
         DomainName::KoalaBear => begin_or_refuse(
-            make_duplex::<KoalaBear, 2130706433>(asked),
+            make_duplex::<KoalaBear, KOALA_BEAR_ORDER>(asked),
             part,
             player,
         ),
         DomainName::Goldilocks => begin_or_refuse(
-            make_duplex::<Goldilocks, 18446744069414584321>(asked),
+            make_duplex::<Goldilocks, GOLDILOCKS_ORDER>(asked),
             part,
             player,
         ),
@@ -111,22 +118,22 @@ fn begin_multi_over<F: Domain<SAMPLED> + Copy, P: Playing, const SAMPLED: u64>(
 {
     match domain {
         DomainName::Bytes => begin_or_refuse(
-            make_multi::<F, Bytes, SAMPLED, 256>(asked),
+            make_multi::<F, Bytes, SAMPLED, BYTES_ORDER>(asked),
             part,
             player,
         ),
         DomainName::BabyBear => begin_or_refuse(
-            make_multi::<F, BabyBear, SAMPLED, 2013265921>(asked),
+            make_multi::<F, BabyBear, SAMPLED, BABY_BEAR_ORDER>(asked),
             part,
             player,
         ),
         DomainName::KoalaBear => begin_or_refuse(
-            make_multi::<F, KoalaBear, SAMPLED, 2130706433>(asked),
+            make_multi::<F, KoalaBear, SAMPLED, KOALA_BEAR_ORDER>(asked),
             part,
             player,
         ),
         DomainName::Goldilocks => begin_or_refuse(
-            make_multi::<F, Goldilocks, SAMPLED, 18446744069414584321>(asked),
+            make_multi::<F, Goldilocks, SAMPLED, GOLDILOCKS_ORDER>(asked),
             part,
             player,
         ),
@@ -146,14 +153,14 @@ fn begin_multi<P: Playing>(
         (part_of part.now)) }
 {
     match sampled {
-        DomainName::Bytes => begin_multi_over::<Bytes, P, 256>(domain, asked, part, player),
-        DomainName::BabyBear => begin_multi_over::<BabyBear, P, 2013265921>(
+        DomainName::Bytes => begin_multi_over::<Bytes, P, BYTES_ORDER>(domain, asked, part, player),
+        DomainName::BabyBear => begin_multi_over::<BabyBear, P, BABY_BEAR_ORDER>(
             domain, asked, part, player,
         ),
-        DomainName::KoalaBear => begin_multi_over::<KoalaBear, P, 2130706433>(
+        DomainName::KoalaBear => begin_multi_over::<KoalaBear, P, KOALA_BEAR_ORDER>(
             domain, asked, part, player,
         ),
-        DomainName::Goldilocks => begin_multi_over::<Goldilocks, P, 18446744069414584321>(
+        DomainName::Goldilocks => begin_multi_over::<Goldilocks, P, GOLDILOCKS_ORDER>(
             domain, asked, part, player,
         ),
     }
@@ -198,14 +205,14 @@ fn begin_serial_duplex<P: Playing>(
         (part_of part.now)) }
 {
     match sampled {
-        DomainName::Bytes => begin_serial_duplex_in::<Bytes, P, 256>(asked, part, player),
-        DomainName::BabyBear => begin_serial_duplex_in::<BabyBear, P, 2013265921>(
+        DomainName::Bytes => begin_serial_duplex_in::<Bytes, P, BYTES_ORDER>(asked, part, player),
+        DomainName::BabyBear => begin_serial_duplex_in::<BabyBear, P, BABY_BEAR_ORDER>(
             asked, part, player,
         ),
-        DomainName::KoalaBear => begin_serial_duplex_in::<KoalaBear, P, 2130706433>(
+        DomainName::KoalaBear => begin_serial_duplex_in::<KoalaBear, P, KOALA_BEAR_ORDER>(
             asked, part, player,
         ),
-        DomainName::Goldilocks => begin_serial_duplex_in::<Goldilocks, P, 18446744069414584321>(
+        DomainName::Goldilocks => begin_serial_duplex_in::<Goldilocks, P, GOLDILOCKS_ORDER>(
             asked, part, player,
         ),
     }
@@ -241,14 +248,14 @@ fn begin_serial_hash<P: Playing>(
         (serial_hash_made sampled (hash_parameters asked.now)) (part_of part.now)) }
 {
     match sampled {
-        DomainName::Bytes => begin_serial_hash_in::<Bytes, P, 256>(asked, part, player),
-        DomainName::BabyBear => begin_serial_hash_in::<BabyBear, P, 2013265921>(
+        DomainName::Bytes => begin_serial_hash_in::<Bytes, P, BYTES_ORDER>(asked, part, player),
+        DomainName::BabyBear => begin_serial_hash_in::<BabyBear, P, BABY_BEAR_ORDER>(
             asked, part, player,
         ),
-        DomainName::KoalaBear => begin_serial_hash_in::<KoalaBear, P, 2130706433>(
+        DomainName::KoalaBear => begin_serial_hash_in::<KoalaBear, P, KOALA_BEAR_ORDER>(
             asked, part, player,
         ),
-        DomainName::Goldilocks => begin_serial_hash_in::<Goldilocks, P, 18446744069414584321>(
+        DomainName::Goldilocks => begin_serial_hash_in::<Goldilocks, P, GOLDILOCKS_ORDER>(
             asked, part, player,
         ),
     }

@@ -16,7 +16,10 @@ ghost use Rattle.played.specs.Shown.{duplex_words, multi_words, codes_words};
 
 use crate::{Dialect, Played, Shown};
 use byte_transcript::ByteGrindingChallenger;
-use domain::{BabyBear, Bytes, Domain, Goldilocks, KoalaBear};
+use domain::{
+    BABY_BEAR_ORDER, BYTES_ORDER, BabyBear, Bytes, Domain, GOLDILOCKS_ORDER, Goldilocks,
+    KOALA_BEAR_ORDER, KoalaBear,
+};
 use duplex_challenger::DuplexChallenger;
 use multi_field_challenger::MultiField32Challenger;
 use permutation::{CryptographicPermutation, Permutation};
@@ -46,12 +49,12 @@ impl<D: Domain<ORDER> + Copy, P: CryptographicPermutation<D, ORDER> + Copy, cons
 }
 
 // An impl for each domain: only over Bytes is there a search, which asks that codes are bytes.
-impl Played for DuplexChallenger<Bytes, Permutation, 256> {
+impl Played for DuplexChallenger<Bytes, Permutation, BYTES_ORDER> {
     ghost speaks = { Codes };
 
     ghost found = { λ m h n mask. Some (least_candidate
-        (byte_transcript (meaning_of_make ⟦<Bytes as Domain<256>>⟧.arithmetic
-        (image_of ⟦<Bytes as Domain<256>>⟧.arithmetic) m)) h n mask) };
+        (byte_transcript (meaning_of_make ⟦<Bytes as Domain<BYTES_ORDER>>⟧.arithmetic
+        (image_of ⟦<Bytes as Domain<BYTES_ORDER>>⟧.arithmetic) m)) h n mask) };
 
     fn dialect(&self) -> Dialect {
         Dialect::Codes
@@ -61,11 +64,12 @@ impl Played for DuplexChallenger<Bytes, Permutation, 256> {
         Some(self.find_witness(candidates, mask))
     }
 
-    ghost means_itself = { λ m. same_sponge (meaning_of_make ⟦<Bytes as Domain<256>>⟧.arithmetic
-        (image_of ⟦<Bytes as Domain<256>>⟧.arithmetic) m) };
+    ghost means_itself = { λ m. same_sponge (meaning_of_make
+        ⟦<Bytes as Domain<BYTES_ORDER>>⟧.arithmetic
+        (image_of ⟦<Bytes as Domain<BYTES_ORDER>>⟧.arithmetic) m) };
 }
 
-impl Played for DuplexChallenger<BabyBear, Permutation, 2013265921> {
+impl Played for DuplexChallenger<BabyBear, Permutation, BABY_BEAR_ORDER> {
     ghost speaks = { Codes };
 
     ghost found = { λ m h n mask. None };
@@ -79,11 +83,11 @@ impl Played for DuplexChallenger<BabyBear, Permutation, 2013265921> {
     }
 
     ghost means_itself = { λ m. same_sponge (meaning_of_make
-        ⟦<BabyBear as Domain<2013265921>>⟧.arithmetic
-        (image_of ⟦<BabyBear as Domain<2013265921>>⟧.arithmetic) m) };
+        ⟦<BabyBear as Domain<BABY_BEAR_ORDER>>⟧.arithmetic
+        (image_of ⟦<BabyBear as Domain<BABY_BEAR_ORDER>>⟧.arithmetic) m) };
 }
 
-impl Played for DuplexChallenger<KoalaBear, Permutation, 2130706433> {
+impl Played for DuplexChallenger<KoalaBear, Permutation, KOALA_BEAR_ORDER> {
     ghost speaks = { Codes };
 
     ghost found = { λ m h n mask. None };
@@ -97,11 +101,11 @@ impl Played for DuplexChallenger<KoalaBear, Permutation, 2130706433> {
     }
 
     ghost means_itself = { λ m. same_sponge (meaning_of_make
-        ⟦<KoalaBear as Domain<2130706433>>⟧.arithmetic
-        (image_of ⟦<KoalaBear as Domain<2130706433>>⟧.arithmetic) m) };
+        ⟦<KoalaBear as Domain<KOALA_BEAR_ORDER>>⟧.arithmetic
+        (image_of ⟦<KoalaBear as Domain<KOALA_BEAR_ORDER>>⟧.arithmetic) m) };
 }
 
-impl Played for DuplexChallenger<Goldilocks, Permutation, 18446744069414584321> {
+impl Played for DuplexChallenger<Goldilocks, Permutation, GOLDILOCKS_ORDER> {
     ghost speaks = { Codes };
 
     ghost found = { λ m h n mask. None };
@@ -115,8 +119,8 @@ impl Played for DuplexChallenger<Goldilocks, Permutation, 18446744069414584321> 
     }
 
     ghost means_itself = { λ m. same_sponge (meaning_of_make
-        ⟦<Goldilocks as Domain<18446744069414584321>>⟧.arithmetic
-        (image_of ⟦<Goldilocks as Domain<18446744069414584321>>⟧.arithmetic) m) };
+        ⟦<Goldilocks as Domain<GOLDILOCKS_ORDER>>⟧.arithmetic
+        (image_of ⟦<Goldilocks as Domain<GOLDILOCKS_ORDER>>⟧.arithmetic) m) };
 }
 
 impl<

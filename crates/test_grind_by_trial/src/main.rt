@@ -2,20 +2,20 @@
 #![tactic(auto)]
 
 use challenger_traits::{CanObserve, CanSampleBits, GrindingChallenger, grind_by_trial};
-use domain::{BabyBear, Bytes, Goldilocks};
+use domain::{BABY_BEAR_ORDER, BYTES_ORDER, BabyBear, Bytes, GOLDILOCKS_ORDER, Goldilocks};
 use duplex_challenger::DuplexChallenger;
 use multi_field_challenger::MultiField32Challenger;
 use permutation::Ladder;
 use refusal::Refusal;
 use std::{env, io};
 
-type Wide = MultiField32Challenger<BabyBear, Goldilocks, Ladder, 2013265921, 18446744069414584321>;
+type Wide = MultiField32Challenger<BabyBear, Goldilocks, Ladder, BABY_BEAR_ORDER, GOLDILOCKS_ORDER>;
 
-type Narrow = MultiField32Challenger<Bytes, Goldilocks, Ladder, 256, 18446744069414584321>;
+type Narrow = MultiField32Challenger<Bytes, Goldilocks, Ladder, BYTES_ORDER, GOLDILOCKS_ORDER>;
 
-type Codes = DuplexChallenger<BabyBear, Ladder, 2013265921>;
+type Codes = DuplexChallenger<BabyBear, Ladder, BABY_BEAR_ORDER>;
 
-type ByteCodes = DuplexChallenger<Bytes, Ladder, 256>;
+type ByteCodes = DuplexChallenger<Bytes, Ladder, BYTES_ORDER>;
 
 /// How many searches were alike, how many of them found a witness above 0, and how many were refused.
 #[derive(Clone, Copy)]

@@ -17,7 +17,7 @@ module _ {Held : Type 0} where
   two_samples_if_any sample_of h = and_then (sample_of h) (λ a g. and_then (sample_of g) (λ b left. reply (Ok (a ∷ b ∷ [])) left))
 
   -- the digest and the numbers, by what observing each leaves, and then the draws
-  abbrev pub challenges : (after_digest after_observe : Held → List ℕ → Result Held Refusal) → (Held → Reply (Result (List ℕ) Refusal) Held) → Held → List ℕ → List ℕ → Reply (Result (List ℕ) Refusal) Held
+  abbrev pub challenges : {Entry : Type 0} → (Held → List Entry → Result Held Refusal) → (Held → List ℕ → Result Held Refusal) → (Held → Reply (Result (List ℕ) Refusal) Held) → Held → List Entry → List ℕ → Reply (Result (List ℕ) Refusal) Held
   challenges after_digest after_observe draws h digest numbers =
       and_then (observe_of (after_digest h digest) h) (λ u g.
       and_then (observe_of (after_observe g numbers) g) (λ u left. draws left))

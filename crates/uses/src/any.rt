@@ -4,10 +4,10 @@ ghost use Rattle.uses.specs.Challenges.{two_samples_if_any, challenges};
 
 use challengers::{CanObserveDigest, FieldChallenger, Refusal};
 
-/// Observes a digest and numbers, and draws two challenges, each given the same: nothing, or a draw limit.
-pub fn field_challenges<C: FieldChallenger + CanObserveDigest<u64>>(
+/// Observes a digest, of codes, words or bytes, and numbers, and draws two challenges, each given the same: nothing, or a draw limit.
+pub fn field_challenges<T, C: FieldChallenger + CanObserveDigest<T>>(
     c: &mut C,
-    digest: &[u64],
+    digest: &[T],
     numbers: &[u64],
     given: C::Given,
 ) -> Result<[u64; 2], Refusal>

@@ -5,7 +5,8 @@ ghost use Rattle.challengers.specs.DuplexHolds.{make, held_value, make_meaning, 
 ghost use Rattle.challengers.specs.DuplexRules.{after_observe, sample_of};
 ghost use Rattle.uses.specs.Challenges.{two_samples, answered, challenges};
 
-use challengers::{BabyBearDuplex, CanObserve, CanObserveDigest, Ladder, Refusal};
+use crate::field_challenges;
+use challengers::{BabyBearDuplex, Ladder, Refusal};
 
 /// A fresh challenger of 16 cells, of which the first 8 are the rate.
 pub fn fresh_duplex(ladder: Ladder) -> Result<BabyBearDuplex<Ladder>, Refusal>
@@ -15,15 +16,7 @@ pub fn fresh_duplex(ladder: Ladder) -> Result<BabyBearDuplex<Ladder>, Refusal>
     BabyBearDuplex::<Ladder>::new(16, 8, ladder)
 }
 
-/// Draws two challenges.
-pub fn duplex_draws(c: &mut BabyBearDuplex<Ladder>) -> [u64; 2]
-    ensures does { Does make held_value c.old c.new result
-        (two_samples (sample_of (make_meaning c.old)) (held_value c.old)) }
-{
-    [c.sample(), c.sample()]
-}
-
-/// Observes a digest and numbers, and draws two challenges.
+/// Observes a digest and numbers, and draws two challenges, as any challenger of a field does.
 pub fn duplex_challenges(
     c: &mut BabyBearDuplex<Ladder>,
     digest: &[u64],
@@ -34,7 +27,5 @@ pub fn duplex_challenges(
         (λ h. answered (two_samples (sample_of (make_meaning c.old)) h))
         (held_value c.old) digest.now numbers.now) }
 {
-    c.observe_digest(digest)?;
-    c.observe(numbers)?;
-    Ok(duplex_draws(c))
+    field_challenges(c, digest, numbers, ())
 }

@@ -5,10 +5,11 @@ ghost use Rattle.challengers.specs.Grinding.{at_make};
 ghost use Rattle.challengers.specs.Ends.{AreAlike};
 ghost use Rattle.uses.specs.Witness.{row_after_witness, checked_row};
 ghost use Rattle.uses.specs.Rows.{prover_row, verifier_row};
+ghost use Rattle.uses.specs.Rows.{prover_row_over_hash, verifier_row_over_hash};
 
 use challengers::{
-    BABY_BEAR_ORDER, BabyBear, CanSampleBits, Ends, GrindingChallenger, Permutation, Refusal,
-    duplex_ends,
+    BABY_BEAR_ORDER, BabyBear, CanSampleBits, Ends, GrindingChallenger, Hasher, Permutation,
+    Refusal, duplex_ends, serializing_hash_ends,
 };
 
 /// The witness that a prover found, the row that it drew after it, and what the verifier drew.
@@ -99,5 +100,23 @@ pub fn rehearse_row(permutation: Permutation, numbers: &[u64]) -> Result<Session
         session.witness ≡ Ok session.again) }
 {
     let mut ends = duplex_ends::<BabyBear, BABY_BEAR_ORDER>(16, 8, permutation)?;
+    rehearse(&mut ends, numbers, 8, 10000, 10)
+}
+
+/// The same on serializing challengers over hash challengers that begin with these bytes.
+pub fn rehearse_row_over_hash(
+    initial: &[u8],
+    hasher: Hasher,
+    numbers: &[u64],
+) -> Result<Session, Refusal>
+    ensures again { IfOk result (λ session. session.again ≡ Some session.row) }
+    ensures proved { IfOk result (λ session. prover_row_over_hash initial.now hasher numbers.now
+        ≡ Ok (session.witness, session.row)) }
+    ensures refused { IfErr result (λ e. prover_row_over_hash initial.now hasher numbers.now
+        ≡ Err e) }
+    ensures checked { IfOk result (λ session. verifier_row_over_hash initial.now hasher numbers.now
+        session.witness ≡ Ok session.again) }
+{
+    let mut ends = serializing_hash_ends::<BabyBear, BABY_BEAR_ORDER>(initial, hasher)?;
     rehearse(&mut ends, numbers, 8, 10000, 10)
 }

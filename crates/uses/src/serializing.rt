@@ -9,7 +9,8 @@ ghost use Rattle.challengers.specs.Transcript.{after_observe_bytes};
 ghost use Rattle.challengers.specs.SerializingRules.{after_observe, sample_of};
 ghost use Rattle.uses.specs.Challenges.{two_samples_if_any, challenges};
 
-use challengers::{BabyBearHash, ByteHash, CanObserve, CanObserveDigest, Hasher, Refusal};
+use crate::field_challenges;
+use challengers::{BabyBearHash, ByteHash, Hasher, Refusal};
 
 /// A fresh challenger over SHA-256, which begins with these bytes.
 pub fn fresh_serializing(initial: &[u8]) -> Result<BabyBearHash, Refusal>
@@ -19,7 +20,7 @@ pub fn fresh_serializing(initial: &[u8]) -> Result<BabyBearHash, Refusal>
     BabyBearHash::new(ByteHash::new(initial, Hasher::Sha256)?)
 }
 
-/// Observes a digest of bytes and numbers, and draws two challenges, each within the draw limit.
+/// Observes a digest of bytes and numbers, and draws two challenges, each within the draw limit, as any challenger of a field does.
 pub fn serializing_challenges(
     c: &mut BabyBearHash,
     digest: &[u8],
@@ -32,7 +33,5 @@ pub fn serializing_challenges(
         (two_samples_if_any (λ h. sample_of BABY_BEAR_ORDER (hash_bytes (make c.old.inner)) h
         limit)) (held_value c.old.inner) digest.now numbers.now) }
 {
-    c.observe_digest(digest)?;
-    c.observe(numbers)?;
-    Ok([c.sample(limit)?, c.sample(limit)?])
+    field_challenges(c, digest, numbers, limit)
 }

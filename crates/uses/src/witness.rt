@@ -53,8 +53,9 @@ pub fn prove_and_verify<C: GrindingChallenger + Copy>(
     ensures refused { IfErr result (λ e. (observed_and_ground (at_make C.after_observe C.drawing
         C.check_start (C.make prover.old)) (C.held_value prover.old) numbers.now bits budget).said
         ≡ Err e) }
-    ensures found { IfOk result (λ _. IsOk (observed_and_ground (at_make C.after_observe C.drawing
-        C.check_start (C.make prover.old)) (C.held_value prover.old) numbers.now bits budget).said) }
+    ensures found { IfOk result (λ _. IsOk (observed_and_ground (at_make C.after_observe
+        C.drawing C.check_start (C.make prover.old)) (C.held_value prover.old) numbers.now bits
+        budget).said) }
     ensures agree { IfOk result (λ seen. (seen.0 ≡ true) × (C.make seen.1 ≡ C.make prover.new)
         × (C.held_value seen.1 ≡ C.held_value prover.new)) }
 {
